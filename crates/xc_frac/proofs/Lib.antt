@@ -1,0 +1,4 @@
+pub mod Answered
+pub mod ClearedTerms
+pub mod Compared
+pub mod Inverses

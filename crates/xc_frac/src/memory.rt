@@ -1,0 +1,11 @@
+use std::alloc::AllocError;
+
+/// Want of memory, as the error of a call that has no other.
+#[derive(Clone, Copy, Debug, PartialEq, Eq)]
+pub struct Memory;
+
+impl From<AllocError> for Memory {
+    fn from(_error: AllocError) -> Memory {
+        Memory
+    }
+}

@@ -1,0 +1,101 @@
+use super::*;
+use std::alloc::AllocError;
+use std::cmp::Ordering;
+use std::test::Fail;
+
+const MOST: i128 = i128::MAX;
+
+// num / den, where neither is the least i128.
+fn fraction(num: i128, den: i128) -> Option<Frac> {
+    if num == i128::MIN || den == i128::MIN {
+        return None;
+    }
+    Frac::of(num, den)
+}
+
+fn answer(op: Op, left: Frac, right: Frac) -> Option<Result<Frac, Wide>> {
+    match op {
+        Op::Add => Some(left.add(right)),
+        Op::Sub => Some(left.sub(right)),
+        Op::Mul => Some(left.mul(right)),
+        Op::Div if right.num() == 0 => None,
+        Op::Div => Some(left.div(right)),
+    }
+}
+
+#[test]
+fn worked_operations(rt: HostRuntime) -> Result<(), Fail> {
+    let power = 1 << 126;
+    let cases = [
+        (Op::Add, (1, 3), (1, 6), Some((1, 2))),
+        (Op::Add, (MOST, 1), (1, 1), None),
+        (Op::Add, (1, power), (1, power - 1), None),
+        (Op::Add, (1, 1 << 100), (1, 1 << 100), Some((1, 1 << 99))),
+        (Op::Add, (6, -4), (2, 1), Some((1, 2))),
+        (Op::Sub, (1, 2), (1, 3), Some((1, 6))),
+        (Op::Sub, (-MOST, 1), (1, 1), None),
+        (Op::Mul, (MOST, 1), (2, 1), None),
+        (Op::Mul, (MOST, 2), (2, MOST), Some((1, 1))),
+        (Op::Div, (1, 2), (-3, 4), Some((-2, 3))),
+        (Op::Div, (1, MOST), (MOST, 1), None),
+    ];
+    for (op, left, right, want) in cases {
+        let left = fraction(left.0, left.1).ok_or("no fraction")?;
+        let right = fraction(right.0, right.1).ok_or("no fraction")?;
+        match (answer(op, left, right).ok_or("by zero")?, want) {
+            (Ok(got), Some(want)) => assert_eq!(rt; (got.num(), got.den()), want),
+            (Err(wide), None) => assert_eq!(rt; wide, Wide { op, left, right }),
+            _ => assert!(rt; false, "{op:?} of {left:?} and {right:?}"),
+        }
+    }
+    Ok(())
+}
+
+#[test]
+fn worked_fractions(rt: HostRuntime) -> Result<(), Fail> {
+    let cases = [
+        ((6, -4), (3, -2), Ordering::Equal),
+        ((MOST, MOST - 1), (MOST - 1, MOST - 2), Ordering::Less),
+        ((-1, 2), (-1, 3), Ordering::Less),
+        ((1, 3), (-1, 2), Ordering::Greater),
+    ];
+    for (left, right, want) in cases {
+        let left = fraction(left.0, left.1).ok_or("no fraction")?;
+        let right = fraction(right.0, right.1).ok_or("no fraction")?;
+        assert_eq!(rt; left.compare(right), want, "{left:?} with {right:?}");
+        assert_eq!(rt;
+            right.neg().compare(left.neg()),
+            want,
+            "{left:?} with {right:?}"
+        );
+    }
+    let reduced = Frac::of(6, -4).ok_or("no fraction")?;
+    assert_eq!(rt; (reduced.num(), reduced.den()), (-3, 2));
+    assert_eq!(rt; Frac::of(1, 0), None);
+    Ok(())
+}
+
+fn same<T: PartialEq>(left: &T, right: &T) -> bool {
+    left == right
+}
+
+#[test]
+fn texts_and_lists(rt: HostRuntime) -> Result<(), Fail> {
+    let text = Text::of(format!(in rt.alloc(); "a{}", 1)?);
+    let other = text.copy()?;
+    assert!(rt; same(&text, &other));
+    assert_eq!(rt; text.clone()?.as_str(), "a1");
+    assert_eq!(rt; other.into_string().as_str(), "a1");
+
+    let mut items = Items::of([1, 2].to_vec(rt.alloc())?);
+    let before = items.clone()?;
+    if let Some(first) = items.as_mut_slice().first_mut() {
+        *first = 3;
+    }
+    assert_eq!(rt; items.as_slice(), [3, 2].as_slice());
+    assert!(rt; !same(&items, &before));
+    assert_eq!(rt; before.into_vec().as_slice(), [1, 2].as_slice());
+
+    assert_eq!(rt; Memory::from(AllocError), Memory);
+    Ok(())
+}

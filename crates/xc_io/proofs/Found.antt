@@ -7,6 +7,7 @@ use Rattle.std.specs.Option.{option_map}
 use Rattle.std.specs.Str.{bytes_eq}
 use Rattle.xc_io.specs.MemoryShelf.{files_of, first_file}
 
+-- one step of both searches
 found_step : (is_named : Bool) (file : String Global × Vec ℕ Global) (later : Option (String Global × Vec ℕ Global)) (made : Option (List ℕ × List ℕ)) → option_map (λ f. f.1.items) later ≡ option_map (λ f. f.1) made → option_map (λ f. f.1.items) (cond is_named (Some file) later) ≡ option_map (λ f. f.1) (cond is_named (Some (string_bytes file.0, file.1.items)) made)
 found_step true file later made e = refl
 found_step false file later made e = e

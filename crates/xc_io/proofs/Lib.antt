@@ -1,5 +1,6 @@
+pub mod Found
 pub mod Past
-pub mod Steady
 pub mod Put
 pub mod Sent
-pub mod Found
+pub mod Steady
+pub mod Taken

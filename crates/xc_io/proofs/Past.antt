@@ -9,10 +9,12 @@ use Rattle.xc_io.specs.Calls.{CallState, fails_next, is_past, after_call}
 pub next_count_later : (count : ℕ) → count ≤ next_count count
 next_count_later count = grind (arith, nat_tests)
 
+-- what is below a number is below a later one
 all_past_later : (xs : List ℕ) (a b : ℕ) → a ≤ b → list_all (λ call. nat_lt call a) xs ≡ true → list_all (λ call. nat_lt call b) xs ≡ true
 all_past_later [] a b le h = refl
 all_past_later (x ∷ xs) a b le h = grind (arith, nat_tests, all_past_later xs a b le)
 
+-- what is below a number is not that number
 all_past_next : (xs : List ℕ) (n : ℕ) → list_all (λ call. nat_lt call n) xs ≡ true → list_any (λ call. nat_eq call n) xs ≡ false
 all_past_next [] n h = refl
 all_past_next (x ∷ xs) n h = grind (arith, nat_tests, all_past_next xs n)

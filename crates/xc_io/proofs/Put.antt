@@ -9,14 +9,17 @@ use Rattle.xc_io.specs.Sink.{PutLeaves}
 use Rattle.xc_io.specs.Calls.{fails_next}
 use Rattle.xc_io.specs.MemorySink.{SinkState, is_fault, appended_count, after_put}
 
+-- a test that cannot pass
 not_true : (test : Bool) → (IsTrue test → ⊥) → test ≡ false
 not_true true refuted = absurd (refuted refl)
 not_true false refuted = refl
 
+-- no more than the piece is appended
 part_if : (fails : Bool) (room count : ℕ) → min room (if fails then count / 2 else count) ≤ count
 part_if true room count = omega arith
 part_if false room count = omega arith
 
+-- where the put is no fault, the piece is
 whole_if : (fails : Bool) (room count : ℕ) → (fails || nat_lt room count) ≡ false → count ≤ min room (if fails then count / 2 else count)
 whole_if true room count works = absurd (cc)
 whole_if false room count works = grind (arith, nat_tests)

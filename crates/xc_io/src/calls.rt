@@ -1,6 +1,6 @@
 // The calls of a shelf or a sink in memory, of which chosen ones fail.
 ghost use Rattle.std.specs.Prelude.{◌≡◌};
-ghost use Rattle.xc_io.specs.Calls.{CallState, no_calls, fails_next, after_call};
+ghost use Rattle.xc_io.specs.Calls.{no_calls, fails_next, after_call};
 
 use std::marker::Model;
 

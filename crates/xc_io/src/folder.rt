@@ -1,5 +1,5 @@
-// Files of the system, each opened by its name as a path.
-ghost use Rattle.std.specs.Prelude.{◌≡◌, ◌^◌, ◌-◌, ◌<◌, ◌≤◌, ℕ, length, take, IfOk, IfSome};
+// A shelf over the files of the system.
+ghost use Rattle.std.specs.Prelude.{◌≡◌, ◌^◌, ◌-◌, ◌<◌, ◌≤◌, ℕ, length, take, IfOk, IfSome, MatchOption};
 
 use crate::{Shelf, ShelfFault};
 use std::alloc::Global;
@@ -42,15 +42,41 @@ impl<'a, R: Files> FolderShelf<'a, R> {
 
 // The reader's bytes to its end, or the first `most` of them.
 fn take_up_to<F: Read + Drop>(alloc: Global, reader: F, most: usize) -> io::Result<Vec<u8>>
-    ensures { IfSome (F.remaining reader) (λ left. IfOk result (λ bytes. bytes.items ≡ take most left)) }
+    ensures { IfSome (F.remaining reader) (λ left.
+        IfOk result (λ bytes. bytes.items ≡ take most left)) }
 {
     let mut bytes = Vec::new(alloc);
     reader.take(most as u64).read_to_end(&mut bytes)?;
     Ok(bytes)
 }
 
-fn read_file<R: Files>(rt: &R, alloc: Global, path: &str, most: usize) -> io::Result<Vec<u8>> {
-    take_up_to(alloc, fs::open(rt, path)?, most)
+// The reader's bytes to its end, or none where they are more than the room.
+#[tactic(auto, using(crate::proofs::Taken::taken_whole, crate::proofs::Taken::taken_part))]
+fn read_within<F: Read + Drop>(alloc: Global, reader: F, room: usize) -> io::Result<Option<Vec<u8>>>
+    requires { room < 2 ^ 64 - 1 }
+    ensures whole { IfSome (F.remaining reader) (λ left. IfOk result (λ read.
+        MatchOption read (room < length left) (λ bytes. bytes.items ≡ left))) }
+    ensures room { IfOk result (λ read. IfSome read (λ bytes. length bytes.items ≤ room)) }
+{
+    // One byte past the room tells that there are more.
+    let bytes = take_up_to(alloc, reader, room + 1)?;
+    if bytes.len() > room {
+        Ok(None)
+    } else {
+        Ok(Some(bytes))
+    }
+}
+
+fn read_file<R: Files>(
+    rt: &R,
+    alloc: Global,
+    path: &str,
+    room: usize,
+) -> io::Result<Option<Vec<u8>>>
+    requires { room < 2 ^ 64 - 1 }
+    ensures { IfOk result (λ read. IfSome read (λ bytes. length bytes.items ≤ room)) }
+{
+    read_within(alloc, fs::open(rt, path)?, room)
 }
 
 impl<R: Files> Shelf for FolderShelf<'_, R> {
@@ -65,10 +91,9 @@ impl<R: Files> Shelf for FolderShelf<'_, R> {
     ghost steady_tells = { λ s h. absurd (cc) };
 
     fn fetch(&mut self, name: &str, room: usize) -> Result<Vec<u8>, ShelfFault> {
-        // One byte past the room tells a file that is too long.
-        match read_file(self.rt, self.alloc, name, room + 1) {
-            Ok(bytes) if bytes.len() > room => Err(ShelfFault::TooLong),
-            Ok(bytes) => Ok(bytes),
+        match read_file(self.rt, self.alloc, name, room) {
+            Ok(Some(bytes)) => Ok(bytes),
+            Ok(None) => Err(ShelfFault::TooLong),
             Err(error) if error.kind() == ErrorKind::OutOfMemory => Err(ShelfFault::Memory),
             Err(_) => {
                 self.faults = self.faults.saturating_add(1);

@@ -1,10 +1,10 @@
 // A shelf in memory, of which chosen calls fail.
-ghost use Rattle.std.specs.Prelude.{◌≡◌, ◌^◌, ◌-◌, ◌<◌, ◌≤◌, ◌↔◌, [], List, ℕ, Bool, true, None, IsTrue, length, IfOk, IsErrOf, IsNone, find, string_bytes, if◌then◌else◌};
+ghost use Rattle.std.specs.Prelude.{◌≡◌, ◌^◌, ◌-◌, ◌<◌, ◌≤◌, ◌↔◌, [], IsTrue, length, IfOk, IsErrOf, IsNone, find, string_bytes, if◌then◌else◌};
 ghost use Rattle.std.specs.Option.{option_map};
 ghost use Rattle.std.specs.Str.{bytes_eq};
-ghost use Rattle.xc_io.specs.Calls.{CallState, no_calls, is_past};
+ghost use Rattle.xc_io.specs.Calls.{no_calls, is_past};
 ghost use Rattle.xc_io.specs.Shelf.{FetchGives};
-ghost use Rattle.xc_io.specs.MemoryShelf.{ShelfState, files_of, first_file, found, after_fetch};
+ghost use Rattle.xc_io.specs.MemoryShelf.{files_of, first_file, found, after_fetch};
 
 use crate::calls::Calls;
 use crate::{Shelf, ShelfFault};
@@ -34,7 +34,8 @@ impl Model for MemoryShelf {
 impl MemoryShelf {
     /// A shelf of these files, each a name and its bytes, and of the numbers of the fetches that fail.
     pub fn new(alloc: Global, files: Vec<(String, Vec<u8>)>, failing: Vec<u64>) -> MemoryShelf
-        ensures state { result ≡ record { files = files_of files.items; calls = no_calls failing.items } }
+        ensures state { result
+            ≡ record { files = files_of files.items; calls = no_calls failing.items } }
         ensures steady { IsTrue (is_past result.calls) ↔ (failing.items ≡ []) }
     {
         MemoryShelf {
@@ -47,7 +48,8 @@ impl MemoryShelf {
 
 fn find_file<'a>(files: &'a [(String, Vec<u8>)], name: &str) -> Option<&'a Vec<u8>>
     ensures { option_map (λ bytes. bytes.now.items) result
-        ≡ option_map (λ file. file.1.items) (find (λ file. bytes_eq (string_bytes file.0) name.now) files.now) }
+        ≡ option_map (λ file. file.1.items)
+        (find (λ file. bytes_eq (string_bytes file.0) name.now) files.now) }
 {
     files
         .iter()

@@ -1,7 +1,7 @@
 // A sink in memory, of which chosen calls fail.
-ghost use Rattle.std.specs.Prelude.{◌≡◌, ◌+◌, ◌-◌, ◌≤◌, ◌↔◌, [], List, ℕ, Bool, length, IfOk, IsErrOf, IsTrue, Some};
-ghost use Rattle.xc_io.specs.Calls.{CallState, no_calls};
-ghost use Rattle.xc_io.specs.MemorySink.{SinkState, steady_room, is_fault, after_put};
+ghost use Rattle.std.specs.Prelude.{◌≡◌, ◌+◌, ◌-◌, ◌≤◌, ◌↔◌, [], length, IfOk, IsErrOf, IsTrue};
+ghost use Rattle.xc_io.specs.Calls.{no_calls};
+ghost use Rattle.xc_io.specs.MemorySink.{steady_room, is_fault, after_put};
 
 use crate::calls::Calls;
 use crate::{Sink, SinkFault};
@@ -75,7 +75,8 @@ impl Sink for MemorySink {
     ghost steady_tells = { λ s n h. refl };
 
     fn put(&mut self, piece: &[u8]) -> Result<(), SinkFault>
-        ensures fault { IsErrOf result SinkFault.Failed ↔ IsTrue (is_fault self.old (length piece.now)) }
+        ensures fault { IsErrOf result SinkFault.Failed
+            ↔ IsTrue (is_fault self.old (length piece.now)) }
         ensures after { self.new ≡ after_put self.old piece.now }
     {
         let fails = self.calls.next_fails();

@@ -1,5 +1,5 @@
 // A place from which bytes are fetched by name.
-ghost use Rattle.std.specs.Prelude.{◌≡◌, ◌^◌, ◌-◌, ◌<◌, ◌≤◌, List, ℕ, Bool, true, Option, Some, None, length, IfOk, IsErrOf, IfSome, IsSome};
+ghost use Rattle.std.specs.Prelude.{◌≡◌, ◌^◌, ◌-◌, ◌<◌, ◌≤◌, ℕ, Bool, true, Option, length, IfOk, IsErrOf, IfSome, IsSome};
 ghost use Rattle.xc_io.specs.Faults.{Rose};
 ghost use Rattle.xc_io.specs.Shelf.{Files, FetchGives};
 

@@ -1,7 +1,6 @@
 // A sink over a writer of the standard library.
-ghost use Rattle.std.specs.Prelude.{◌≡◌, ◌≤◌, ℕ, List, Option, length, take};
+ghost use Rattle.std.specs.Prelude.{◌≡◌, ◌≤◌, length, take};
 ghost use Rattle.std.specs.Io.KnownBytes.{Appends};
-ghost use Rattle.xc_io.specs.StreamSink.{StreamState};
 
 use crate::{Sink, SinkFault};
 use std::io::Write;

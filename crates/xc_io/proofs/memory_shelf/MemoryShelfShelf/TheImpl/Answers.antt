@@ -1,0 +1,18 @@
+use Rattle.std.proofs.Common.{rules}
+use Rattle.std.specs.Prelude.{is_none}
+use Rattle.xc_io.specs.MemoryShelf.{found}
+use Rattle.xc_io.proofs.Past.{faults_later, past_stays}
+use Rattle.xc_io.proofs.Steady.{absent, quiet}
+use Rattle.xc_io.proofs.memory_shelf.MemoryShelfShelf.TheImpl.Goals as goal
+
+pub fetch-tells : goal.fetch-tells
+fetch-tells c = record {
+  bytes = c.ensures.bytes;
+  room = c.ensures.room;
+  same = search rules;
+  later = rw c.ensures.after (faults_later c.args.self.now.calls (is_none (found c.args.self.now c.args.name.now)));
+  failed = search rules;
+  stays = rw c.ensures.after (past_stays c.args.self.now.calls (is_none (found c.args.self.now c.args.name.now)));
+  answered = λ past failed. absent c.args.self.now c.args.name.now past (c.ensures.fault.0 failed);
+  quiet = rw c.ensures.after (quiet c.args.self.now c.args.name.now);
+}

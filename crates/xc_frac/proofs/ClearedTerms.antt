@@ -1,17 +1,17 @@
 -- Numbers with their common factor taken out: what sums and products of such numbers are.
-use Rattle.std.proofs.Common.{◌≡◌, ◌≢◌, ℕ, ◌+◌, ◌*◌, ◌<◌, ◌≤◌, ◌^◌, arith, ℤ, pos, negsuc, suc, zero, refl, sym, ◌∙◌, ap, subst, inl, inr}
-use Rattle.std.specs.Prelude.{◌+ℤ◌, ◌-ℤ◌, ◌*ℤ◌, ◌<ℤ◌, ◌≤ℤ◌, neg_ℤ, unsigned_abs, ◌⊎◌, int_div, int_rem}
+use Rattle.std.proofs.Common.{◌≡◌, ◌≢◌, ℕ, ◌*◌, ◌<◌, ◌^◌, arith, ℤ, pos, negsuc, suc, zero, sym, ◌∙◌, ap, subst, inl, inr}
+use Rattle.std.specs.Prelude.{◌+ℤ◌, ◌*ℤ◌, ◌<ℤ◌, unsigned_abs, ◌⊎◌, int_div, int_rem}
 use Rattle.std.specs.Int.{IsGcd}
 use Rattle.std.proofs.lemmas.Int.{ints, unsigned_abs-mul, quot-rem}
 use Rattle.std.proofs.lemmas.Nat.Gcd.{mod-eq-zero_of_dvd, le_of_dvd}
 use Prim.Native.Nat.{◌∣◌}
 use native.Mathlib.Nat.{pos_of_dvd_of_pos, dvd-mul_right, eq-one_of_dvd-one}
 use Rattle.xc_model.specs.Divisors.{IsCoprime, IsLeastCommon}
-use Rattle.xc_model.specs.Fraction.{Fraction, over, SameNumber, sum_of, product_of, IsQuotient}
+use Rattle.xc_model.specs.Fraction.{over, SameNumber, sum_of, product_of}
 use Rattle.xc_model.specs.Ratio.{IsLowest}
-use Rattle.xc_model.specs.Width.{IsNarrow, IsWide, Meets, SumPasses, ProductPasses, QuotientPasses}
-use Rattle.xc_model.proofs.Gauss.{IsCoprime-swap, IsCoprime-divisors, IsCoprime-products, IsCoprime-over_gcd}
-use Rattle.xc_model.proofs.Integers.{ring, mul_comm, mul_positive, pos-unsigned_abs, unsigned_abs_some, unsigned_abs-neg, wide_if, factor_below}
+use Rattle.xc_model.specs.Width.{IsNarrow, Meets, SumPasses, ProductPasses}
+use Rattle.xc_model.proofs.Gauss.{IsCoprime-divisors, IsCoprime-products, IsCoprime-over_gcd}
+use Rattle.xc_model.proofs.Integers.{ring, mul_positive, pos-unsigned_abs, unsigned_abs_some, wide_if}
 use Rattle.xc_model.proofs.LeastCommon.{least_common, sum_meets, sum_fits}
 use Rattle.xc_model.proofs.Numbers.{same-trans}
 use Rattle.xc_frac.specs.Cleared.{IsCleared}

@@ -4,7 +4,7 @@ use Rattle.std.specs.Prelude.{◌-ℤ◌, ◌*ℤ◌, ◌<ℤ◌, ◌≤ℤ◌, 
 use Rattle.std.proofs.lemmas.Int.{ints}
 use lib.IntN.{+ℤ_idl}
 use Rattle.xc_model.specs.Divisors.{IsCoprime}
-use Rattle.xc_model.specs.Fraction.{Fraction, over, neg_of, product_of, SameNumber, IsQuotient}
+use Rattle.xc_model.specs.Fraction.{Fraction, neg_of, product_of, SameNumber, IsQuotient}
 use Rattle.xc_model.specs.Ratio.{Ratio, IsLowest, fraction_of}
 use Rattle.xc_model.specs.Width.{ProductPasses, QuotientPasses}
 use Rattle.xc_model.proofs.Gauss.{IsCoprime-swap}

@@ -9,8 +9,8 @@ use crate::{integers, order};
 use std::cmp::Ordering;
 use std::marker::Model;
 
-/// An exact fraction in lowest terms: a numerator and a positive denominator without a common factor, each at most
-/// 2^127 - 1 in magnitude.
+/// An exact fraction in lowest terms: a numerator and a positive denominator without a common
+/// factor, each at most 2^127 - 1 in magnitude.
 #[derive(Clone, Copy, Debug, PartialEq, Eq)]
 pub struct Frac {
     num: i128,
@@ -75,10 +75,11 @@ impl Frac {
         order::order(self.num, self.den, other.num, other.den)
     }
 
-    /// The sum, or `Wide` where the least common denominator, a numerator over it or the sum of the two numerators passes
-    /// 2^127 - 1 in magnitude.
+    /// The sum, or `Wide` where the least common denominator, a numerator over it or the sum of the
+    /// two numerators passes 2^127 - 1 in magnitude.
     pub fn add(self, other: Frac) -> Result<Frac, Wide>
-        ensures exact { IfOk result (λ r. SameNumber (fraction_of r) (sum_of (fraction_of self) (fraction_of other))) }
+        ensures exact { IfOk result (λ r.
+            SameNumber (fraction_of r) (sum_of (fraction_of self) (fraction_of other))) }
         ensures fits { OnOk result (¬ (SumPasses (fraction_of self) (fraction_of other))) }
         ensures passes { OnErr result (SumPasses (fraction_of self) (fraction_of other)) }
         ensures operands { IfErr result (λ w. w ≡ record { op = Op.Add; left = self; right = other }) }
@@ -94,7 +95,8 @@ impl Frac {
 
     /// The difference, or `Wide` where the sum with the negative passes.
     pub fn sub(self, other: Frac) -> Result<Frac, Wide>
-        ensures exact { IfOk result (λ r. SameNumber (fraction_of r) (difference_of (fraction_of self) (fraction_of other))) }
+        ensures exact { IfOk result (λ r.
+            SameNumber (fraction_of r) (difference_of (fraction_of self) (fraction_of other))) }
         ensures fits { OnOk result (¬ (DifferencePasses (fraction_of self) (fraction_of other))) }
         ensures passes { OnErr result (DifferencePasses (fraction_of self) (fraction_of other)) }
         ensures operands { IfErr result (λ w. w ≡ record { op = Op.Sub; left = self; right = other }) }
@@ -108,9 +110,11 @@ impl Frac {
         self.sum(other.neg()).ok_or(Wide::of(Op::Sub, self, other))
     }
 
-    /// The product, or `Wide` where its numerator or denominator in lowest terms passes 2^127 - 1 in magnitude.
+    /// The product, or `Wide` where its numerator or denominator in lowest terms passes 2^127 - 1
+    /// in magnitude.
     pub fn mul(self, other: Frac) -> Result<Frac, Wide>
-        ensures exact { IfOk result (λ r. SameNumber (fraction_of r) (product_of (fraction_of self) (fraction_of other))) }
+        ensures exact { IfOk result (λ r.
+            SameNumber (fraction_of r) (product_of (fraction_of self) (fraction_of other))) }
         ensures fits { OnOk result (¬ (ProductPasses (fraction_of self) (fraction_of other))) }
         ensures passes { OnErr result (ProductPasses (fraction_of self) (fraction_of other)) }
         ensures operands { IfErr result (λ w. w ≡ record { op = Op.Mul; left = self; right = other }) }
@@ -118,8 +122,8 @@ impl Frac {
         self.product(other).ok_or(Wide::of(Op::Mul, self, other))
     }
 
-    /// The quotient by a fraction other than 0, or `Wide` where its numerator or denominator in lowest terms passes
-    /// 2^127 - 1 in magnitude.
+    /// The quotient by a fraction other than 0, or `Wide` where its numerator or denominator in
+    /// lowest terms passes 2^127 - 1 in magnitude.
     pub fn div(self, other: Frac) -> Result<Frac, Wide>
         requires { other.num ≢ pos 0 }
         ensures exact { IfOk result (λ r. IsQuotient (fraction_of r) (fraction_of self) (fraction_of other)) }
@@ -165,7 +169,8 @@ impl Frac {
 
     // The sum, where nothing passes over the least common denominator.
     fn sum(self, other: Frac) -> Option<Frac>
-        ensures exact { IfSome result (λ r. SameNumber (fraction_of r) (sum_of (fraction_of self) (fraction_of other))) }
+        ensures exact { IfSome result (λ r.
+            SameNumber (fraction_of r) (sum_of (fraction_of self) (fraction_of other))) }
         ensures fits { OnSome result (¬ (SumPasses (fraction_of self) (fraction_of other))) }
         ensures passes { IfNone result (SumPasses (fraction_of self) (fraction_of other)) }
     {
@@ -185,9 +190,11 @@ impl Frac {
         Some(Frac::reduced(num, den))
     }
 
-    // The product, where it fits. Each numerator and the other denominator are cleared first, so what is left is lowest.
+    // The product, where it fits. Each numerator and the other denominator are cleared of their
+    // common factor first, so what is left is lowest.
     fn product(self, other: Frac) -> Option<Frac>
-        ensures exact { IfSome result (λ r. SameNumber (fraction_of r) (product_of (fraction_of self) (fraction_of other))) }
+        ensures exact { IfSome result (λ r.
+            SameNumber (fraction_of r) (product_of (fraction_of self) (fraction_of other))) }
         ensures fits { OnSome result (¬ (ProductPasses (fraction_of self) (fraction_of other))) }
         ensures passes { IfNone result (ProductPasses (fraction_of self) (fraction_of other)) }
     {

@@ -69,7 +69,8 @@ pub fn cleared(num: i128, den: i128) -> (i128, i128)
     (exact_quotient(num, s), exact_quotient(den, s))
 }
 
-// What two denominators have beside their common factor. Where they are equal, or one is 1, no divisor is sought.
+// What two denominators have beside their common factor. Where they are equal, or one is 1, no
+// divisor is sought.
 pub fn cofactors(left: i128, right: i128) -> (i128, i128)
     requires left { pos 0 <ℤ left }
     requires right { pos 0 <ℤ right }

@@ -5,8 +5,8 @@ ghost use Rattle.xc_model.specs.Order.{OrdersInt};
 
 use std::cmp::Ordering;
 
-// How a/b compares with c/d: as their whole parts do, and where these are equal, as what is left, each turned upside down
-// and the two exchanged.
+// How a/b compares with c/d: as their whole parts do, and where these are equal, as what is left,
+// each turned upside down and the two exchanged.
 fn by_quotients(a: u128, b: u128, c: u128, d: u128) -> Ordering
     requires left { 0 < b }
     requires right { 0 < d }

@@ -1,5 +1,5 @@
 -- Being the same number is an equivalence that the arithmetic and the order respect.
-use Rattle.std.proofs.Common.{◌≡◌, ◌≢◌, ℕ, ◌*◌, ◌<◌, arith, ℤ, pos, refl, sym, ◌∙◌, ap, subst}
+use Rattle.std.proofs.Common.{◌≡◌, ◌≢◌, arith, ℤ, pos, refl, sym, ◌∙◌, ap}
 use Rattle.std.specs.Prelude.{◌+ℤ◌, ◌*ℤ◌, ◌<ℤ◌, neg_ℤ}
 use Rattle.std.proofs.lemmas.Int.{ints}
 use Rattle.xc_model.specs.Fraction.{Fraction, SameNumber, IsBelow, sum_of, neg_of, product_of, IsQuotient}

@@ -1,24 +1,25 @@
 -- Fractions as whole numbers over a common denominator.
-use Rattle.std.proofs.Common.{◌/◌, ◌≡◌, ◌≢◌, ℕ, ◌*◌, ◌<◌, ◌≤◌, ◌^◌, arith, ℤ, pos, refl, sym, ◌∙◌, ap, subst, inl, inr}
-use Rattle.std.specs.Prelude.{◌+ℤ◌, ◌*ℤ◌, ◌<ℤ◌, neg_ℤ, unsigned_abs, ◌⊎◌, ◌↔◌}
+use Rattle.std.proofs.Common.{◌/◌, ◌≡◌, ◌≢◌, ℕ, ◌*◌, ◌<◌, ◌≤◌, ◌^◌, arith, ℤ, pos, sym, ◌∙◌, ap, inl, inr}
+use Rattle.std.specs.Prelude.{◌+ℤ◌, ◌*ℤ◌, ◌<ℤ◌, neg_ℤ, unsigned_abs}
 use Rattle.std.proofs.lemmas.Int.{ints}
 use Prim.Native.Nat.{◌∣◌}
 use native.Mathlib.Nat.{mul-div_cancel'}
 use Rattle.std.specs.declared.cmp.Ordering.{Ordering}
 use Rattle.std.specs.declared.cmp.Ordering.TheVariants.{Less, Equal, Greater}
-use Rattle.xc_model.specs.Divisors.{IsCoprime, IsLeastCommon}
-use Rattle.xc_model.specs.Fraction.{Fraction, SameNumber, IsBelow, neg_of, sum_of}
+use Rattle.xc_model.specs.Divisors.{IsCoprime}
+use Rattle.xc_model.specs.Fraction.{Fraction, SameNumber, neg_of, sum_of}
 use Rattle.xc_model.specs.Order.{OrdersInt, Orders, SameSign}
-use Rattle.xc_model.specs.Ratio.{Ratio, IsLowest, fraction_of, IsOver}
-use Rattle.xc_model.specs.Width.{IsNarrow, IsWide, Meets, SumPasses}
+use Rattle.xc_model.specs.Ratio.{Ratio, fraction_of, IsOver}
+use Rattle.xc_model.specs.Width.{IsNarrow, IsWide, SumPasses}
 use Rattle.xc_model.proofs.Integers.{ring, add-mul, cancel, cancel_lt, scale_lt, mul_comm, pos-unsigned_abs, factor_below}
 use Rattle.xc_model.proofs.Lowest.{lowest_den_divides}
-use Rattle.xc_model.proofs.Numbers.{den_some, den_positive, same-sym, same-trans, same-sum, same-neg, below-same}
+use Rattle.xc_model.proofs.Numbers.{den_some, same-sym, same-trans, same-sum, same-neg, below-same}
 
--- n over d
+-- n / d
 abbrev pub ratio : (n : ℤ) (d : ℕ) → 0 < d → Fraction
 ratio n d p = record { num = n; den = d; positive = p }
 
+-- f and n / d are the same number, and the other way
 pub over_same : (f : Ratio) (n : ℤ) (d : ℕ) (p : 0 < d) → IsOver f n d → SameNumber (fraction_of f) (ratio n d p)
 over_same f n d p h = record { cross = h.same ∙ ap (λ z. n *ℤ z) (sym (pos-unsigned_abs f.den f.lowest.positive)) }
 

@@ -1,5 +1,5 @@
 -- What fits 128 bits, and where exact arithmetic passes them.
-use Rattle.std.specs.Prelude.{◌≡◌, ℕ, ℤ, pos, ◌+ℤ◌, ◌*ℤ◌, ◌<ℤ◌, ◌<◌, ◌≤◌, ◌^◌, ◌⊎◌, unsigned_abs}
+use Rattle.std.specs.Prelude.{◌≡◌, ℕ, ℤ, pos, ◌+ℤ◌, ◌*ℤ◌, ◌<◌, ◌≤◌, ◌^◌, ◌⊎◌, unsigned_abs}
 use Rattle.xc_model.specs.Divisors.{IsCoprime, IsLeastCommon}
 use Rattle.xc_model.specs.Fraction.{Fraction, SameNumber, neg_of, product_of, IsQuotient}
 

@@ -2,7 +2,7 @@ use Rattle.std.proofs.Common.{rules}
 use Rattle.std.specs.Prelude.{FitsSigned}
 use Rattle.std.specs.Int.{w128}
 use Rattle.std.proofs.lemmas.Int.{to_z-of_z}
-use Rattle.std.proofs.Common.{pos, ◌≢◌, ◌≡◌}
+use Rattle.std.proofs.Common.{pos, ◌≢◌}
 use Rattle.std.specs.Prelude.{◌-ℤ◌, ◌<ℤ◌, ◌≤ℤ◌}
 use Rattle.xc_frac.proofs.Inverses.{inverse_up, inverse_down, inverse_down_cross}
 use Rattle.xc_frac.proofs.frac.Frac.inverse.Goals as goal

@@ -2,7 +2,7 @@ use Rattle.std.proofs.Common.{rules}
 use Rattle.std.specs.Prelude.{FitsSigned}
 use Rattle.std.specs.Int.{w128}
 use Rattle.std.proofs.lemmas.Int.{to_z-of_z}
-use Rattle.std.proofs.Common.{pos, ◌≡◌}
+use Rattle.std.proofs.Common.{pos}
 use Rattle.std.specs.Prelude.{◌-ℤ◌}
 use Rattle.xc_model.specs.Fraction.{SameNumber, neg_of}
 use Rattle.xc_model.specs.Ratio.{fraction_of}

@@ -7,7 +7,6 @@ use Rattle.std.specs.Prelude.{◌*ℤ◌}
 use Rattle.xc_model.specs.Fraction.{SameNumber, product_of}
 use Rattle.xc_model.specs.Ratio.{fraction_of}
 use Rattle.xc_model.proofs.Lowest.{product_fits}
-use Rattle.xc_frac.specs.contracts.frac.Frac.{the_view}
 use Rattle.xc_frac.proofs.ClearedTerms.{product_num_passes, product_den_passes, product_lowest, product_is}
 use Rattle.xc_frac.proofs.frac.Frac.product.Goals as goal
 use Rattle.xc_frac.proofs.frac.Frac.product.Goals.{After-lowest}

@@ -6,7 +6,6 @@ use Rattle.std.proofs.Common.{◌≡◌, arith, pos}
 use Rattle.std.specs.Prelude.{◌*ℤ◌, ◌+ℤ◌, ◌<ℤ◌}
 use Rattle.std.proofs.lemmas.Int.{ints}
 use Rattle.xc_model.proofs.Integers.{mul_positive}
-use Rattle.xc_frac.specs.contracts.frac.Frac.{the_view}
 use Rattle.xc_frac.proofs.ClearedTerms.{den_passes, left_passes, right_passes, sum_passes, none_passes, sum_is}
 use Rattle.xc_frac.proofs.frac.Frac.sum.Goals as goal
 

@@ -1,0 +1,27 @@
+-- What the names, keys and contents that the report lends are.
+use Rattle.std.specs.Prelude.{List, ℕ}
+use Rattle.std.specs.Borrow.{Bor}
+use Rattle.xc_report.specs.Names.{Name}
+use Rattle.xc_report.specs.Keys.{Key}
+use Rattle.xc_report.specs.Facts.{Content, Named}
+use Rattle.xc_report.specs.declared.names.Name as lent_name
+use Rattle.xc_report.specs.declared.keys.Key as lent_key
+use Rattle.xc_report.specs.declared.facts.Content as lent_content
+use Rattle.xc_report.specs.declared.facts.Stated as lent_stated
+
+-- two lent texts
+abbrev pub pair_view : Bor (List ℕ) × Bor (List ℕ) → List ℕ × List ℕ
+pair_view p = (p.0.now, p.1.now)
+
+abbrev pub name_view : lent_name.Name → Name
+name_view n = record { uri = n.uri.now; local = n.local.now }
+
+abbrev pub key_view : lent_key.Key → Key
+key_view k = record { entity = name_view k.entity; period = k.period.now; unit = name_view k.unit }
+
+abbrev pub content_view : lent_content.Content → Content
+content_view c = record { key = key_view c.key; value = c.value; decimals = c.decimals }
+
+-- what is stated under this id
+abbrev pub named_view : List ℕ → lent_stated.Stated → Named
+named_view id s = record { id = id; node = s.node; content = content_view s.content }

@@ -1,0 +1,108 @@
+// The plain facts of members of `facts`.
+ghost use Rattle.std.specs.Prelude.{◌≡◌, ◌∷◌, option_map, map};
+ghost use Rattle.serde_json.specs.View.{view};
+ghost use Rattle.xc_report.specs.Facts.{dimensions_of, concept_of, place_of, value_of, content_of};
+ghost use Rattle.xc_report.specs.Steps.{FactAnswers};
+ghost use Rattle.xc_report.specs.Views.{name_view, content_view};
+
+use crate::keys::{Key, key_of};
+use crate::names::{Name, expanded, is_same_name, text_at};
+use crate::plain::PlainFault;
+use crate::values::{plain_decimals, plain_value};
+use serde_json::Value;
+
+/// What a plain fact says of its concept.
+#[derive(Clone, Copy, Debug)]
+pub struct Content<'a> {
+    pub key: Key<'a>,
+    pub value: i64,
+    pub decimals: i32,
+}
+
+/// What a plain fact says, with the place of its concept among the names.
+#[derive(Clone, Copy, Debug)]
+pub struct Stated<'a> {
+    pub node: u64,
+    pub content: Content<'a>,
+}
+
+/// The fact of one member, where its concept is one of the names; `NotYet` where it is not plain.
+pub fn read_fact<'a>(
+    namespaces: &'a Value,
+    names: &[Name<'a>],
+    fact: &'a Value,
+) -> Result<Option<Stated<'a>>, PlainFault>
+    ensures { FactAnswers result (view namespaces.now) (map name_view names.now) (view fact.now) }
+{
+    let Some(concept) = concept_of(namespaces, fact) else {
+        return Err(PlainFault::NotYet);
+    };
+    let Some(node) = place_of(names, &concept) else {
+        return Ok(None);
+    };
+    match content_of(namespaces, fact) {
+        Some(content) => Ok(Some(Stated { node, content })),
+        None => Err(PlainFault::NotYet),
+    }
+}
+
+/// The place of the first of the names that is equal to this one.
+pub fn place_of(names: &[Name<'_>], name: &Name<'_>) -> Option<u64>
+    ensures { result ≡ place_of (map name_view names.now) (name_view name.now) }
+{
+    for (at, other) in names.iter().enumerate() {
+        if is_same_name(name, other) {
+            return Some(at as u64);
+        }
+    }
+    None
+}
+
+fn concept_of<'a>(namespaces: &'a Value, fact: &'a Value) -> Option<Name<'a>>
+    ensures { option_map name_view result ≡ concept_of (view namespaces.now) (view fact.now) }
+{
+    let Some(dimensions) = dimensions_of(fact) else {
+        return None;
+    };
+    match text_at(dimensions, "concept") {
+        Some(text) => expanded(namespaces, text),
+        None => None,
+    }
+}
+
+fn content_of<'a>(namespaces: &'a Value, fact: &'a Value) -> Option<Content<'a>>
+    ensures { option_map content_view result ≡ content_of (view namespaces.now) (view fact.now) }
+{
+    let Some(dimensions) = dimensions_of(fact) else {
+        return None;
+    };
+    let Some(key) = key_of(namespaces, dimensions) else {
+        return None;
+    };
+    let Some(value) = value_of(fact) else {
+        return None;
+    };
+    match plain_decimals(fact) {
+        Some(decimals) => Some(Content {
+            key,
+            value,
+            decimals,
+        }),
+        None => None,
+    }
+}
+
+fn dimensions_of(fact: &Value) -> Option<&Value>
+    ensures { option_map (λ dimensions. view dimensions.now) result ≡ dimensions_of (view fact.now) }
+{
+    fact.get("dimensions")
+}
+
+fn value_of(fact: &Value) -> Option<i64>
+    ensures { result ≡ value_of (view fact.now) }
+{
+    match text_at(fact, "value") {
+        Some(text) => plain_value(text),
+        None => None,
+    }
+}

@@ -1,0 +1,71 @@
+// Plain reports.
+ghost use Rattle.std.specs.Prelude.{◌≡◌, ◌∷◌, Some, None, map, option_map, IfOk, IfErr, string_bytes};
+ghost use Rattle.serde_json.specs.View.{view, members_view};
+ghost use Rattle.xc_report.specs.Plain.{Answers, plain_answer, json_of, node_texts};
+ghost use Rattle.xc_report.specs.declared.plain.PlainFault.TheVariants.{Memory};
+
+use std::alloc::{AllocError, AllocFailed, Global};
+use serde_json::Value;
+use xc_frac::{Items, Text};
+
+/// A fact of a named concept.
+#[derive(Debug, Drop)]
+pub struct PlainFact {
+    /// The name of its member in `facts`.
+    pub id: Text,
+    /// The place of the first text of the nodes with its concept's expanded name.
+    pub node: u64,
+    /// One number for equal keys: the place of the first fact with this key.
+    pub key: u64,
+    /// A whole number of at most 12 digits.
+    pub value: i64,
+    /// From -6 to 6.
+    pub decimals: Option<i32>,
+}
+
+/// The facts of a plain report.
+#[derive(Debug, Drop)]
+pub struct Plain {
+    /// The facts of the named concepts, by their ids as bytes.
+    pub facts: Items<PlainFact>,
+    /// For each text of the nodes, the place of the first with the same expanded name.
+    pub nodes: Items<u64>,
+}
+
+/// Why bytes have no plain facts.
+#[derive(Debug, Drop)]
+pub enum PlainFault {
+    /// There was no memory.
+    Memory,
+    /// The bytes are no JSON value in UTF-8.
+    NotJson,
+    /// The report is not plain for the nodes.
+    NotYet,
+    /// An earlier fact has both the concept and the key of the fact with this id.
+    TwoFacts(Text),
+}
+
+impl From<AllocError> for PlainFault {
+    ghost from_gives = { λ _ e. e ≡ Memory };
+
+    fn from(_: AllocError) -> Self {
+        PlainFault::Memory
+    }
+}
+
+impl<T: Drop> From<AllocFailed<T>> for PlainFault {
+    ghost from_gives = { λ _ e. e ≡ Memory };
+
+    fn from(_: AllocFailed<T>) -> Self {
+        PlainFault::Memory
+    }
+}
+
+/// The facts that a plain report has of the concepts that the nodes name.
+///
+/// Want of memory aside, the faults come in this order: `NotJson`, `NotYet`, `TwoFacts`.
+pub fn read_plain(alloc: Global, bytes: &[u8], nodes: &[String]) -> Result<Plain, PlainFault>
+    ensures { Answers result (plain_answer bytes.now (node_texts nodes.now)) }
+{
+    Err(PlainFault::NotYet)
+}

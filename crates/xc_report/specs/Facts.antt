@@ -14,11 +14,15 @@ pub record Content : Type 0 where
   pub value : ℤ
   pub decimals : ℤ
 
--- a plain fact, with the place of its concept among the names
-pub record Named : Type 0 where
-  pub id : List ℕ
+-- what a plain fact says, and the place of its concept among the names
+pub record Stated : Type 0 where
   pub node : ℕ
   pub content : Content
+
+-- a plain fact: its id, and what it states
+pub record Named : Type 0 where
+  pub id : List ℕ
+  pub stated : Stated
 
 -- the dimensions of a fact
 abbrev pub dimensions_of : Data → Option Data
@@ -50,27 +54,45 @@ abbrev pub content_of : Data → Data → Option Content
 content_of namespaces fact = parts_content (option_and_then (key_of namespaces) (dimensions_of fact)) (value_of fact) (plain_decimals fact)
 
 -- a fact is plain where its concept has a name, and what it says is plain if that is one of the names
-abbrev pub is_plain_fact : Data → List Name → List ℕ × Data → Bool
-is_plain_fact namespaces names m = is_some (concept_of namespaces m.1) && (not (is_some (node_of namespaces names m.1)) || is_some (content_of namespaces m.1))
+abbrev pub is_plain_fact : Data → List Name → Data → Bool
+is_plain_fact namespaces names fact = is_some (concept_of namespaces fact) && (not (is_some (node_of namespaces names fact)) || is_some (content_of namespaces fact))
 
-abbrev pub make_named : List ℕ → ℕ → Content → Named
-make_named id node content = record { id = id; node = node; content = content }
+abbrev pub make_stated : ℕ → Content → Stated
+make_stated node content = record { node = node; content = content }
 
--- the plain fact of a member whose concept is one of the names
+-- what a fact states, where its concept is one of the names
+abbrev pub stated_of : Data → List Name → Data → Option Stated
+stated_of namespaces names fact = option_and_then (λ node. option_map (make_stated node) (content_of namespaces fact)) (node_of namespaces names fact)
+
+abbrev pub make_named : List ℕ → Stated → Named
+make_named id stated = record { id = id; stated = stated }
+
+-- the plain fact of a member, where its concept is one of the names
 abbrev pub named_of : Data → List Name → List ℕ × Data → Option Named
-named_of namespaces names m = option_and_then (λ node. option_map (make_named m.0 node) (content_of namespaces m.1)) (node_of namespaces names m.1)
+named_of namespaces names m = option_map (make_named m.0) (stated_of namespaces names m.1)
 
--- the place of the first of the facts that has this key
-abbrev pub key_number : List Named → Key → ℕ
-key_number facts key = position_or_len (λ fact. is_same_key key fact.content.key) facts
+-- the key of a plain fact
+abbrev pub key_in : Named → Key
+key_in fact = fact.stated.content.key
 
--- a fact with its key's number among all
-abbrev pub numbered : List Named → Named → PlainFact
-numbered all fact = record { id = fact.id; node = fact.node; key = key_number all fact.content.key; value = fact.content.value; decimals = Some fact.content.decimals }
+-- the keys of plain facts
+abbrev pub keys_of : List Named → List Key
+keys_of facts = map key_in facts
 
--- the facts, each with its key's number
+-- the place of the first of the keys that is equal to this one
+abbrev pub key_number : List Key → Key → ℕ
+key_number keys key = position_or_len (is_same_key key) keys
+
+abbrev pub with_number : ℕ → Named → PlainFact
+with_number key fact = record { id = fact.id; node = fact.stated.node; key = key; value = fact.stated.content.value; decimals = Some fact.stated.content.decimals }
+
+-- a plain fact, with its key's number among the keys of all
+abbrev pub numbered : List Key → Named → PlainFact
+numbered keys fact = with_number (key_number keys (key_in fact)) fact
+
+-- plain facts, each with its key's number
 abbrev pub plain_facts : List Named → List PlainFact
-plain_facts all = map (numbered all) all
+plain_facts facts = map (numbered (keys_of facts)) facts
 
 -- two facts of one data point: of one concept, with one key
 abbrev pub is_same_point : PlainFact → PlainFact → Bool

@@ -26,10 +26,14 @@ info_of d = get (codes "documentInfo") d
 abbrev pub is_json_type : List ℕ → Bool
 is_json_type text = bytes_eq text (codes "https://xbrl.org/2021/xbrl-json")
 
+-- a member whose value is a text
+abbrev pub is_text : List ℕ × Data → Bool
+is_text m = is_some (as_str m.1)
+
 -- an object of texts
 abbrev pub are_texts : Option Members → Bool
 are_texts None = false
-are_texts (Some ms) = list_all (λ m. is_some (as_str m.1)) (member_list ms)
+are_texts (Some ms) = list_all is_text (member_list ms)
 
 -- what prefixes stand for, in the information of a report of this document type
 abbrev pub namespaces_in : Data → Option Data
@@ -52,7 +56,7 @@ are_names namespaces nodes = list_all (λ node. is_some (expanded namespaces nod
 
 -- each fact is plain
 abbrev pub are_plain : Data → List Name → Members → Bool
-are_plain namespaces names facts = list_all (is_plain_fact namespaces names) (member_list facts)
+are_plain namespaces names facts = list_all (λ m. is_plain_fact namespaces names m.1) (member_list facts)
 
 -- a report is plain for texts that name nodes
 abbrev pub is_plain : Data → List (List ℕ) → Members → Bool
@@ -63,23 +67,23 @@ abbrev pub node_places : List Name → List ℕ
 node_places names = filter_map (place_of names) names
 
 -- the facts, or the first of them whose data point an earlier one has
-abbrev pub double_answer : List Name → List PlainFact → Option (List ℕ) → Result Plain PlainFault
-double_answer names facts None = Ok (record { facts = facts; nodes = node_places names })
-double_answer names facts (Some id) = Err (TwoFacts id)
+abbrev pub double_answer : List ℕ → List PlainFact → Option (List ℕ) → Result Plain PlainFault
+double_answer nodes facts None = Ok (record { facts = facts; nodes = nodes })
+double_answer nodes facts (Some id) = Err (TwoFacts id)
 
 -- what is answered of plain facts, in the order of their ids
-abbrev pub facts_answer : List Name → List PlainFact → Result Plain PlainFault
-facts_answer names facts = double_answer names facts (first_double facts)
+abbrev pub facts_answer : List ℕ → List PlainFact → Result Plain PlainFault
+facts_answer nodes facts = double_answer nodes facts (first_double facts)
 
--- the plain facts of members
-abbrev pub facts_among : Data → List Name → Members → List PlainFact
-facts_among namespaces names facts = plain_facts (filter_map (named_of namespaces names) (member_list facts))
+-- the plain facts of members whose concepts are among the names
+abbrev pub named_facts : Data → List Name → Members → List Named
+named_facts namespaces names facts = filter_map (named_of namespaces names) (member_list facts)
 
 -- what is answered of these namespaces and facts
 unfoldable pub parts_answer : List (List ℕ) → Option Data → Option Members → Result Plain PlainFault
 parts_answer nodes None facts = Err NotYet
 parts_answer nodes (Some namespaces) None = Err NotYet
-parts_answer nodes (Some namespaces) (Some facts) = if is_plain namespaces nodes facts then facts_answer (names_of namespaces nodes) (facts_among namespaces (names_of namespaces nodes) facts) else Err NotYet
+parts_answer nodes (Some namespaces) (Some facts) = if is_plain namespaces nodes facts then facts_answer (node_places (names_of namespaces nodes)) (plain_facts (named_facts namespaces (names_of namespaces nodes) facts)) else Err NotYet
 
 -- what is answered of what was read
 abbrev pub data_answer : List (List ℕ) → Option Data → Result Plain PlainFault

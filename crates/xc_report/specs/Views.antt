@@ -3,11 +3,12 @@ use Rattle.std.specs.Prelude.{List, ℕ}
 use Rattle.std.specs.Borrow.{Bor}
 use Rattle.xc_report.specs.Names.{Name}
 use Rattle.xc_report.specs.Keys.{Key}
-use Rattle.xc_report.specs.Facts.{Content, Named}
+use Rattle.xc_report.specs.Facts.{Content, Stated, Named}
 use Rattle.xc_report.specs.declared.names.Name as lent_name
 use Rattle.xc_report.specs.declared.keys.Key as lent_key
 use Rattle.xc_report.specs.declared.facts.Content as lent_content
 use Rattle.xc_report.specs.declared.facts.Stated as lent_stated
+use Rattle.xc_report.specs.declared.facts.Named as lent_named
 
 -- two lent texts
 abbrev pub pair_view : Bor (List ℕ) × Bor (List ℕ) → List ℕ × List ℕ
@@ -22,6 +23,8 @@ key_view k = record { entity = name_view k.entity; period = k.period.now; unit =
 abbrev pub content_view : lent_content.Content → Content
 content_view c = record { key = key_view c.key; value = c.value; decimals = c.decimals }
 
--- what is stated under this id
-abbrev pub named_view : List ℕ → lent_stated.Stated → Named
-named_view id s = record { id = id; node = s.node; content = content_view s.content }
+abbrev pub stated_view : lent_stated.Stated → Stated
+stated_view s = record { node = s.node; content = content_view s.content }
+
+abbrev pub named_view : lent_named.Named → Named
+named_view n = record { id = n.id.now; stated = stated_view n.stated }

@@ -1,15 +1,17 @@
 // The plain facts of members of `facts`.
-ghost use Rattle.std.specs.Prelude.{◌≡◌, ◌∷◌, option_map, map};
-ghost use Rattle.serde_json.specs.View.{view};
-ghost use Rattle.xc_report.specs.Facts.{dimensions_of, concept_of, place_of, value_of, content_of};
-ghost use Rattle.xc_report.specs.Steps.{FactAnswers};
+ghost use Rattle.std.specs.Prelude.{◌≡◌, option_map, map};
+ghost use Rattle.serde_json.specs.View.{view, members_view};
+ghost use Rattle.xc_report.specs.Facts.{dimensions_of, concept_of, value_of, content_of};
+ghost use Rattle.xc_report.specs.Steps.{FactAnswers, FactsAnswers};
 ghost use Rattle.xc_report.specs.Views.{name_view, content_view};
 
 use crate::keys::{Key, key_of};
-use crate::names::{Name, expanded, is_same_name, text_at};
+use crate::names::{Name, expanded, text_at};
+use crate::nodes::place_of;
 use crate::plain::PlainFault;
 use crate::values::{plain_decimals, plain_value};
-use serde_json::Value;
+use serde_json::{Map, Value};
+use std::alloc::Global;
 
 /// What a plain fact says of its concept.
 #[derive(Clone, Copy, Debug)]
@@ -26,8 +28,37 @@ pub struct Stated<'a> {
     pub content: Content<'a>,
 }
 
-/// The fact of one member, where its concept is one of the names; `NotYet` where it is not plain.
-pub fn read_fact<'a>(
+/// A plain fact, lent by the report: the name of its member, and what it states.
+#[derive(Clone, Copy, Debug)]
+pub struct Named<'a> {
+    pub id: &'a str,
+    pub stated: Stated<'a>,
+}
+
+/// The facts of members whose concepts are among the names, in the order of their ids as bytes;
+/// `NotYet` where a member is not plain.
+pub fn read_facts<'a>(
+    alloc: Global,
+    namespaces: &'a Value,
+    names: &[Name<'a>],
+    members: &'a Map<String, Value>,
+) -> Result<Vec<Named<'a>>, PlainFault>
+    ensures { FactsAnswers result (view namespaces.now) (map name_view names.now) (members_view members.now.entries) }
+{
+    let mut facts = Vec::new(alloc);
+    for (id, fact) in members {
+        if let Some(stated) = read_fact(namespaces, names, fact)? {
+            facts.push(Named {
+                id: id.as_str(),
+                stated,
+            })?;
+        }
+    }
+    Ok(facts)
+}
+
+// The fact of one member, where its concept is one of the names; `NotYet` where it is not plain.
+fn read_fact<'a>(
     namespaces: &'a Value,
     names: &[Name<'a>],
     fact: &'a Value,
@@ -44,18 +75,6 @@ pub fn read_fact<'a>(
         Some(content) => Ok(Some(Stated { node, content })),
         None => Err(PlainFault::NotYet),
     }
-}
-
-/// The place of the first of the names that is equal to this one.
-pub fn place_of(names: &[Name<'_>], name: &Name<'_>) -> Option<u64>
-    ensures { result ≡ place_of (map name_view names.now) (name_view name.now) }
-{
-    for (at, other) in names.iter().enumerate() {
-        if is_same_name(name, other) {
-            return Some(at as u64);
-        }
-    }
-    None
 }
 
 fn concept_of<'a>(namespaces: &'a Value, fact: &'a Value) -> Option<Name<'a>>

@@ -60,13 +60,7 @@ fn period_of(dimensions: &Value) -> Option<&str>
     ensures { option_map (λ text. text.now) result ≡ period_of (view dimensions.now) }
 {
     match text_at(dimensions, "period") {
-        Some(text) => {
-            if is_moment(text) {
-                Some(text)
-            } else {
-                None
-            }
-        }
+        Some(text) => { if is_moment(text) { Some(text) } else { None } }
         None => None,
     }
 }

@@ -7,7 +7,11 @@
 mod facts;
 mod keys;
 mod names;
+mod nodes;
+mod numbers;
+mod parts;
 mod plain;
+mod points;
 mod values;
 
 pub use names::split;

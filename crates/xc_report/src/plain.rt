@@ -1,11 +1,16 @@
 // Plain reports.
-ghost use Rattle.std.specs.Prelude.{◌≡◌, ◌∷◌, Some, None, map, option_map, IfOk, IfErr, string_bytes};
+ghost use Rattle.std.specs.Prelude.{◌≡◌, Some};
 ghost use Rattle.serde_json.specs.View.{view, members_view};
-ghost use Rattle.xc_report.specs.Plain.{Answers, plain_answer, json_of, node_texts};
+ghost use Rattle.xc_report.specs.Plain.{Answers, plain_answer, parts_answer, facts_answer, node_texts};
 ghost use Rattle.xc_report.specs.declared.plain.PlainFault.TheVariants.{Memory};
 
+use crate::facts::read_facts;
+use crate::nodes::{node_places, read_names};
+use crate::numbers::plain_facts;
+use crate::parts::{facts_of, namespaces_of, read_json};
+use crate::points::first_double;
+use serde_json::{Map, Value};
 use std::alloc::{AllocError, AllocFailed, Global};
-use serde_json::Value;
 use xc_frac::{Items, Text};
 
 /// A fact of a named concept.
@@ -64,8 +69,48 @@ impl<T: Drop> From<AllocFailed<T>> for PlainFault {
 /// The facts that a plain report has of the concepts that the nodes name.
 ///
 /// Want of memory aside, the faults come in this order: `NotJson`, `NotYet`, `TwoFacts`.
+#[tactic(auto, unfolding(crate::specs::Plain::parts_answer))]
 pub fn read_plain(alloc: Global, bytes: &[u8], nodes: &[String]) -> Result<Plain, PlainFault>
     ensures { Answers result (plain_answer bytes.now (node_texts nodes.now)) }
 {
-    Err(PlainFault::NotYet)
+    let value = read_json(alloc, bytes)?;
+    let Some(namespaces) = namespaces_of(&value) else {
+        return Err(PlainFault::NotYet);
+    };
+    match facts_of(&value) {
+        Some(facts) => read_parts(alloc, namespaces, facts, nodes),
+        None => Err(PlainFault::NotYet),
+    }
+}
+
+// The plain facts of members, where these are plain.
+#[tactic(auto, unfolding(crate::specs::Plain::parts_answer))]
+fn read_parts(
+    alloc: Global,
+    namespaces: &Value,
+    facts: &Map<String, Value>,
+    nodes: &[String],
+) -> Result<Plain, PlainFault>
+    ensures { Answers result (parts_answer (node_texts nodes.now) (Some (view namespaces.now)) (Some (members_view facts.now.entries))) }
+{
+    let names = read_names(alloc, namespaces, nodes)?;
+    let places = node_places(alloc, &names)?;
+    let named = read_facts(alloc, namespaces, &names, facts)?;
+    check_points(places, plain_facts(alloc, &named)?)
+}
+
+// The facts, where no two are of one data point.
+fn check_points(nodes: Vec<u64>, facts: Vec<PlainFact>) -> Result<Plain, PlainFault>
+    ensures { Answers result (facts_answer nodes.items facts.items) }
+{
+    match first_double(&facts) {
+        None => Ok(Plain {
+            facts: Items::of(facts),
+            nodes: Items::of(nodes),
+        }),
+        Some(id) => match id.copy() {
+            Ok(id) => Err(PlainFault::TwoFacts(id)),
+            Err(_) => Err(PlainFault::Memory),
+        },
+    }
 }

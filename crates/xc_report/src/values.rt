@@ -1,5 +1,5 @@
 // The values, decimals and moments of plain facts.
-ghost use Rattle.std.specs.Prelude.{◌≡◌, pos, option_map, codes};
+ghost use Rattle.std.specs.Prelude.{◌≡◌, ◌<◌, ◌^◌, codes, IfSome};
 ghost use Rattle.serde_json.specs.View.{view};
 ghost use Rattle.xc_report.specs.Values.{digits_value, plain_value, plain_decimals, small, fits_place, fits_places, has_form, is_moment};
 
@@ -14,10 +14,13 @@ pub fn plain_value(text: &str) -> Option<i64>
 {
     match text.as_bytes() {
         [b'-', digits @ ..] => match digits_value(digits) {
-            Some(value) => Some(-value),
+            Some(value) => Some(-(value as i64)),
             None => None,
         },
-        digits => digits_value(digits),
+        digits => match digits_value(digits) {
+            Some(value) => Some(value as i64),
+            None => None,
+        },
     }
 }
 
@@ -38,8 +41,9 @@ pub fn is_moment(text: &str) -> bool
     has_form(MOMENT.as_bytes(), text.as_bytes())
 }
 
-fn digits_value(text: &[u8]) -> Option<i64>
-    ensures { result ≡ option_map pos (digits_value text.now) }
+fn digits_value(text: &[u8]) -> Option<u64>
+    ensures value { result ≡ digits_value text.now }
+    ensures bound { IfSome result (λ value. value < 10 ^ 12) }
 {
     if text.is_empty() || text.len() > 12 {
         return None;
@@ -51,7 +55,7 @@ fn digits_value(text: &[u8]) -> Option<i64>
         }
         value = 10 * value + u64::from(*byte - b'0');
     }
-    Some(value as i64)
+    Some(value)
 }
 
 fn small(decimals: i64) -> Option<i32>
@@ -73,7 +77,9 @@ fn has_form(form: &[u8], text: &[u8]) -> bool
 fn fits_places(form: &[u8], text: &[u8]) -> bool
     ensures { result ≡ fits_places form.now text.now }
 {
-    form.iter().zip(text).all(|(place, byte)| fits_place(*place, *byte))
+    form.iter()
+        .zip(text)
+        .all(|(place, byte)| fits_place(*place, *byte))
 }
 
 fn fits_place(place: u8, byte: u8) -> bool

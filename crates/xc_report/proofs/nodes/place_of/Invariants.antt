@@ -3,7 +3,7 @@ use Rattle.std.specs.List.{position_from}
 use Rattle.xc_report.specs.Names.{is_same_name}
 use Rattle.xc_report.specs.Facts.{place_of}
 use Rattle.xc_report.specs.Views.{name_view}
-use Rattle.xc_report.proofs.facts.place_of.Given as goal
+use Rattle.xc_report.proofs.nodes.place_of.Given as goal
 
 -- the names before this place are other ones
 abbrev pub invariant-loop-at : goal.invariant-loop-at

@@ -9,6 +9,8 @@ use Rattle.xc_report.specs.declared.keys.Key as lent_key
 use Rattle.xc_report.specs.declared.facts.Content as lent_content
 use Rattle.xc_report.specs.declared.facts.Stated as lent_stated
 use Rattle.xc_report.specs.declared.facts.Named as lent_named
+use Rattle.xc_report.specs.declared.points.Point as lent_point
+use Rattle.xc_report.specs.declared.plain.PlainFact.{PlainFact}
 
 -- two lent texts
 abbrev pub pair_view : Bor (List ℕ) × Bor (List ℕ) → List ℕ × List ℕ
@@ -28,3 +30,7 @@ stated_view s = record { node = s.node; content = content_view s.content }
 
 abbrev pub named_view : lent_named.Named → Named
 named_view n = record { id = n.id.now; stated = stated_view n.stated }
+
+-- the data point of a fact
+abbrev pub point_of : PlainFact → lent_point.Point
+point_of fact = record { node = fact.node; key = fact.key }

@@ -5,6 +5,7 @@ ghost use Rattle.xc_report.specs.Facts.{dimensions_of, concept_of, value_of, con
 ghost use Rattle.xc_report.specs.Steps.{FactAnswers, FactsAnswers};
 ghost use Rattle.xc_report.specs.Views.{name_view, content_view};
 
+use crate::firsts::Firsts;
 use crate::keys::{Key, key_of};
 use crate::names::{Name, expanded, text_at};
 use crate::nodes::place_of;
@@ -40,7 +41,7 @@ pub struct Named<'a> {
 pub fn read_facts<'a>(
     alloc: Global,
     namespaces: &'a Value,
-    names: &[Name<'a>],
+    names: &Firsts<Name<'a>>,
     members: &'a Map<String, Value>,
 ) -> Result<Vec<Named<'a>>, PlainFault>
     ensures { FactsAnswers result (view namespaces.now) (map name_view names.now) (members_view members.now.entries) }
@@ -60,7 +61,7 @@ pub fn read_facts<'a>(
 // The fact of one member, where its concept is one of the names; `NotYet` where it is not plain.
 fn read_fact<'a>(
     namespaces: &'a Value,
-    names: &[Name<'a>],
+    names: &Firsts<Name<'a>>,
     fact: &'a Value,
 ) -> Result<Option<Stated<'a>>, PlainFault>
     ensures { FactAnswers result (view namespaces.now) (map name_view names.now) (view fact.now) }

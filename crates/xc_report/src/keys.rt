@@ -2,15 +2,15 @@
 ghost use Rattle.std.specs.Prelude.{◌≡◌, option_map};
 ghost use Rattle.serde_json.specs.Find.{as_object};
 ghost use Rattle.serde_json.specs.View.{view, members_view};
-ghost use Rattle.xc_report.specs.Keys.{key_of, entity_of, period_of, unit_of, has_four, members_count, is_same_key};
+ghost use Rattle.xc_report.specs.Keys.{key_of, entity_of, period_of, unit_of, has_four, members_count};
 ghost use Rattle.xc_report.specs.Views.{name_view, key_view};
 
-use crate::names::{Name, expanded, expanded_loosely, is_same_name, text_at};
+use crate::names::{Name, expanded, expanded_loosely, text_at};
 use crate::values::is_moment;
 use serde_json::{Map, Value};
 
 /// All dimensions of a fact but its concept, lent by the report.
-#[derive(Clone, Copy, Debug)]
+#[derive(Clone, Copy, Debug, PartialEq, Eq, PartialOrd, Ord)]
 pub struct Key<'a> {
     pub entity: Name<'a>,
     pub period: &'a str,
@@ -38,13 +38,6 @@ pub fn key_of<'a>(namespaces: &'a Value, dimensions: &'a Value) -> Option<Key<'a
         period,
         unit,
     })
-}
-
-/// Whether all parts of two keys are equal.
-pub fn is_same_key(a: &Key<'_>, b: &Key<'_>) -> bool
-    ensures { result ≡ is_same_key (key_view a.now) (key_view b.now) }
-{
-    is_same_name(&a.entity, &b.entity) && a.period == b.period && is_same_name(&a.unit, &b.unit)
 }
 
 fn entity_of<'a>(namespaces: &'a Value, dimensions: &'a Value) -> Option<Name<'a>>

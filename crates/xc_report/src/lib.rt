@@ -5,6 +5,7 @@
 #![tactic(auto)]
 
 mod facts;
+mod firsts;
 mod keys;
 mod names;
 mod nodes;

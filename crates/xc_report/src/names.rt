@@ -3,13 +3,13 @@ ghost use Rattle.std.specs.Prelude.{◌≡◌, option_map};
 ghost use Rattle.std.specs.Str.{chars};
 ghost use Rattle.std.specs.List.{list_all};
 ghost use Rattle.serde_json.specs.View.{view};
-ghost use Rattle.xc_report.specs.Names.{is_name_start, is_name_char, is_plain_name, begins_name, around_colon, split, text_at, expanded, expanded_loosely, under_prefix, is_same_name};
+ghost use Rattle.xc_report.specs.Names.{is_name_start, is_name_char, is_plain_name, begins_name, around_colon, split, text_at, expanded, expanded_loosely, under_prefix};
 ghost use Rattle.xc_report.specs.Views.{name_view, pair_view};
 
 use serde_json::Value;
 
 /// A namespace's URI and a local part, lent by the document that they stand in.
-#[derive(Clone, Copy, Debug)]
+#[derive(Clone, Copy, Debug, PartialEq, Eq, PartialOrd, Ord)]
 pub struct Name<'a> {
     pub uri: &'a str,
     pub local: &'a str,
@@ -52,13 +52,6 @@ pub fn expanded_loosely<'a>(namespaces: &'a Value, text: &'a str) -> Option<Name
         Some((prefix, local)) => under_prefix(namespaces, prefix, local),
         None => None,
     }
-}
-
-/// Whether both parts of two names are equal.
-pub fn is_same_name(a: &Name<'_>, b: &Name<'_>) -> bool
-    ensures { result ≡ is_same_name (name_view a.now) (name_view b.now) }
-{
-    a.uri == b.uri && a.local == b.local
 }
 
 /// The text under a name in an object.

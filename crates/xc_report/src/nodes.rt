@@ -7,7 +7,8 @@ ghost use Rattle.xc_report.specs.Steps.{NamesAnswer};
 ghost use Rattle.xc_report.specs.Views.{name_view};
 ghost use Rattle.xc_report.specs.declared.plain.PlainFault.{PlainFault};
 
-use crate::names::{Name, expanded, is_same_name};
+use crate::firsts::Firsts;
+use crate::names::{Name, expanded};
 use crate::plain::PlainFault;
 use serde_json::Value;
 use std::alloc::Global;
@@ -31,12 +32,12 @@ pub fn read_names<'a>(
 }
 
 /// For each name, the place of the first that is equal to it.
-pub fn node_places(alloc: Global, names: &[Name<'_>]) -> Result<Vec<u64>, PlainFault>
+pub fn node_places<'a>(alloc: Global, names: &Firsts<Name<'a>>) -> Result<Vec<u64>, PlainFault>
     ensures ok { IfOk result (λ places. places.items ≡ node_places (map name_view names.now)) }
     ensures err { IfErr result (λ e. e ≡ PlainFault.Memory) }
 {
     let mut places = Vec::new(alloc);
-    for name in names {
+    for name in names.as_slice() {
         if let Some(place) = place_of(names, name) {
             places.push(place)?;
         }
@@ -45,13 +46,8 @@ pub fn node_places(alloc: Global, names: &[Name<'_>]) -> Result<Vec<u64>, PlainF
 }
 
 /// The place of the first of the names that is equal to this one.
-pub fn place_of(names: &[Name<'_>], name: &Name<'_>) -> Option<u64>
+pub fn place_of<'a>(names: &Firsts<Name<'a>>, name: &Name<'a>) -> Option<u64>
     ensures { result ≡ place_of (map name_view names.now) (name_view name.now) }
 {
-    for (at, other) in names.iter().enumerate() {
-        if is_same_name(name, other) {
-            return Some(at as u64);
-        }
-    }
-    None
+    names.first(name)
 }

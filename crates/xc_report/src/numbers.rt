@@ -5,33 +5,41 @@ ghost use Rattle.xc_report.specs.Views.{key_view, named_view};
 ghost use Rattle.xc_report.specs.declared.plain.PlainFault.{PlainFault};
 
 use crate::facts::Named;
-use crate::keys::{Key, is_same_key};
+use crate::firsts::Firsts;
+use crate::keys::Key;
 use crate::plain::{PlainFact, PlainFault};
 use std::alloc::Global;
 use xc_frac::Text;
 
 /// The facts, each with the place of the first fact that has its key.
-pub fn plain_facts(alloc: Global, named: &[Named<'_>]) -> Result<Vec<PlainFact>, PlainFault>
+pub fn plain_facts<'a>(alloc: Global, named: &[Named<'a>]) -> Result<Vec<PlainFact>, PlainFault>
     ensures ok { IfOk result (λ facts. facts.items ≡ plain_facts (map named_view named.now)) }
     ensures err { IfErr result (λ e. e ≡ PlainFault.Memory) }
 {
+    let keys = Firsts::of(alloc, keys_of(alloc, named)?)?;
     let mut facts = Vec::new(alloc);
     for fact in named {
-        let key = key_number(named, &fact.stated.content.key);
+        let key = key_number(&keys, &fact.stated.content.key);
         facts.push(with_number(alloc, key, fact)?)?;
     }
     Ok(facts)
 }
 
-fn key_number(named: &[Named<'_>], key: &Key<'_>) -> u64
-    ensures { result ≡ key_number (keys_of (map named_view named.now)) (key_view key.now) }
+fn keys_of<'a>(alloc: Global, named: &[Named<'a>]) -> Result<Vec<Key<'a>>, PlainFault>
+    ensures ok { IfOk result (λ keys. map key_view keys.items ≡ keys_of (map named_view named.now)) }
+    ensures err { IfErr result (λ e. e ≡ PlainFault.Memory) }
 {
-    for (at, other) in named.iter().enumerate() {
-        if is_same_key(key, &other.stated.content.key) {
-            return at as u64;
-        }
+    let mut keys = Vec::new(alloc);
+    for fact in named {
+        keys.push(fact.stated.content.key)?;
     }
-    named.len() as u64
+    Ok(keys)
+}
+
+fn key_number<'a>(keys: &Firsts<Key<'a>>, key: &Key<'a>) -> u64
+    ensures { result ≡ key_number (map key_view keys.now) (key_view key.now) }
+{
+    keys.first_or_len(key)
 }
 
 fn with_number(alloc: Global, key: u64, fact: &Named<'_>) -> Result<PlainFact, PlainFault>

@@ -5,6 +5,7 @@ ghost use Rattle.xc_report.specs.Plain.{Answers, plain_answer, parts_answer, fac
 ghost use Rattle.xc_report.specs.declared.plain.PlainFault.TheVariants.{Memory};
 
 use crate::facts::read_facts;
+use crate::firsts::Firsts;
 use crate::nodes::{node_places, read_names};
 use crate::numbers::plain_facts;
 use crate::parts::{facts_of, namespaces_of, read_json};
@@ -93,24 +94,25 @@ fn read_parts(
 ) -> Result<Plain, PlainFault>
     ensures { Answers result (parts_answer (node_texts nodes.now) (Some (view namespaces.now)) (Some (members_view facts.now.entries))) }
 {
-    let names = read_names(alloc, namespaces, nodes)?;
+    let names = Firsts::of(alloc, read_names(alloc, namespaces, nodes)?)?;
     let places = node_places(alloc, &names)?;
     let named = read_facts(alloc, namespaces, &names, facts)?;
-    check_points(places, plain_facts(alloc, &named)?)
+    check_points(alloc, places, plain_facts(alloc, &named)?)
 }
 
 // The facts, where no two are of one data point.
-fn check_points(nodes: Vec<u64>, facts: Vec<PlainFact>) -> Result<Plain, PlainFault>
+fn check_points(alloc: Global, nodes: Vec<u64>, facts: Vec<PlainFact>) -> Result<Plain, PlainFault>
     ensures { Answers result (facts_answer nodes.items facts.items) }
 {
-    match first_double(&facts) {
-        None => Ok(Plain {
+    match first_double(alloc, &facts) {
+        Ok(None) => Ok(Plain {
             facts: Items::of(facts),
             nodes: Items::of(nodes),
         }),
-        Some(id) => match id.copy() {
+        Ok(Some(id)) => match id.copy() {
             Ok(id) => Err(PlainFault::TwoFacts(id)),
             Err(_) => Err(PlainFault::Memory),
         },
+        Err(fault) => Err(fault),
     }
 }

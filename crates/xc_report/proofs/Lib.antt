@@ -3,3 +3,8 @@ pub mod Members
 pub mod FirstPlaces
 pub mod Orders
 pub mod Doubles
+pub mod Tests
+pub mod Splits
+pub mod OnePoint
+pub mod KeyNumbers
+pub mod NotPlain

@@ -6,3 +6,4 @@ pub mod Plain
 pub mod Views
 pub mod Steps
 pub mod Firsts
+pub mod Laws

@@ -53,7 +53,7 @@ split text = option_and_then both_plain (around_colon text)
 
 -- the text is these two plain names, joined by a colon
 pub record IsJoined (text prefix local : List ℕ) : Type 0 where
-  pub joined : text ≡ prefix ++ codes ":" ++ local
+  pub joined : text ≡ prefix ++ (codes ":" ++ local)
   pub prefix_plain : is_plain_name prefix ≡ true
   pub local_plain : is_plain_name local ≡ true
 

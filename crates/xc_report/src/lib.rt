@@ -7,6 +7,7 @@
 mod facts;
 mod firsts;
 mod keys;
+pub mod laws;
 mod names;
 mod nodes;
 mod numbers;
@@ -17,3 +18,6 @@ mod values;
 
 pub use names::split;
 pub use plain::{Plain, PlainFact, PlainFault, read_plain};
+
+#[cfg(test)]
+mod tests;

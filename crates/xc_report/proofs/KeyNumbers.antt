@@ -1,6 +1,5 @@
 -- Keys of a list have one number exactly where they are equal.
-use Rattle.std.proofs.Common.{◌≡◌, ◌<◌, ◌≤◌, ◌&&◌, ◌↔◌, ℕ, List, Bool, true, false, length, Contains, refl, sym, ap, subst, ◌∙◌, arith, true≢false, ⊎_elim}
-use Rattle.std.specs.List.{position_or_len}
+use Rattle.std.proofs.Common.{◌≡◌, ◌<◌, ◌&&◌, ℕ, List, true, length, Contains, refl, sym, ap, ◌∙◌, arith, true≢false, ⊎_elim}
 use Rattle.std.specs.Str.{bytes_eq}
 use Rattle.std.proofs.Math.ListN.{get_or}
 use Rattle.std.proofs.lemmas.Bool.{cases_lt}
@@ -9,7 +8,7 @@ use Rattle.std.proofs.lemmas.Slice.Eq.{bytes_eq-Decides}
 use Rattle.xc_report.specs.Names.{Name, is_same_name}
 use Rattle.xc_report.specs.Keys.{Key, is_same_key}
 use Rattle.xc_report.specs.Facts.{key_number}
-use Rattle.xc_report.proofs.Tests.{both}
+use Rattle.xc_report.proofs.Conjunctions.{both}
 
 bytes_same : (a b : List ℕ) → bytes_eq a b ≡ true → a ≡ b
 bytes_same a b = (bytes_eq-Decides a b).0

@@ -3,8 +3,9 @@ pub mod Members
 pub mod FirstPlaces
 pub mod Orders
 pub mod Doubles
-pub mod Tests
+pub mod Conjunctions
 pub mod Splits
 pub mod OnePoint
 pub mod KeyNumbers
 pub mod NotPlain
+pub mod Ascending

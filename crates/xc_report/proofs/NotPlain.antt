@@ -1,18 +1,15 @@
 -- `NotYet` is answered of a JSON value exactly where it is no plain report.
-use Rattle.std.proofs.Common.{◌≡◌, ◌&&◌, ◌||◌, ℕ, List, Bool, true, false, not, Option, Some, None, Result, Ok, Err, All, IsSome, is_some, refl, sym, ap, ◌∙◌, true≢false}
-use Rattle.std.specs.List.{list_all}
+use Rattle.std.proofs.Common.{◌≡◌, ◌&&◌, ◌||◌, ℕ, List, Bool, true, false, not, Option, Some, None, Err, is_some, refl, sym, ap, ◌∙◌, true≢false}
 use Rattle.std.proofs.lemmas.List.Sums.{AllPass-from_list_all, list_all-from_AllPass}
 use Rattle.serde_json.specs.Data.{Data, Members}
 use Rattle.xc_report.specs.Names.{expanded}
 use Rattle.xc_report.specs.Keys.{member_list}
-use Rattle.xc_report.specs.Facts.{concept_of, content_of, node_of, is_plain_fact, plain_facts, first_double}
-use Rattle.xc_report.specs.Plain.{namespaces_of, facts_of, names_of, are_names, are_plain, is_plain, named_facts, node_places, parts_answer, data_answer, facts_answer, double_answer}
+use Rattle.xc_report.specs.Facts.{concept_of, content_of, node_of, is_plain_fact}
+use Rattle.xc_report.specs.Plain.{namespaces_of, facts_of, names_of, are_names, are_plain, is_plain, parts_answer, data_answer, double_answer}
 use Rattle.xc_report.specs.Laws.{IsPlainFact, IsPlainReport}
 use Rattle.xc_report.specs.declared.plain.PlainFact.{PlainFact}
-use Rattle.xc_report.specs.declared.plain.Plain.{Plain}
-use Rattle.xc_report.specs.declared.plain.PlainFault.{PlainFault}
 use Rattle.xc_report.specs.declared.plain.PlainFault.TheVariants.{NotYet}
-use Rattle.xc_report.proofs.Tests.{both}
+use Rattle.xc_report.proofs.Conjunctions.{both}
 use Rattle.xc_report.proofs.OnePoint.{test_answer}
 
 -- a premise and what follows from it, as a test

@@ -1,6 +1,6 @@
 -- No two facts of an answer are of one data point.
-use Rattle.std.proofs.Common.{◌≡◌, ◌+◌, ◌<◌, ◌==◌, ◌&&◌, ℕ, zero, suc, List, [], ◌∷◌, Bool, true, false, Option, Some, None, Result, Ok, Err, AllPairs, find, length, take, option_map, cond, subst, refl, sym, ap, ◌∙◌, arith, add-zero, true≢false, if◌then◌else◌}
-use Rattle.std.specs.List.{list_any, enumerate_from}
+use Rattle.std.proofs.Common.{◌≡◌, ◌+◌, ◌<◌, ℕ, zero, suc, List, [], ◌∷◌, Bool, true, false, Option, Some, None, Result, Ok, Err, AllPairs, find, length, take, option_map, cond, subst, refl, sym, ap, ◌∙◌, arith, add-zero, true≢false, if◌then◌else◌}
+use Rattle.std.specs.List.{enumerate_from}
 use Rattle.std.proofs.Math.ListN.{get_or}
 use Rattle.std.proofs.lemmas.Bool.Decides.{nat_tests}
 use Rattle.std.proofs.lemmas.List.{get_or-take, length-take}

@@ -1,15 +1,15 @@
 -- The order of names and keys tells apart what differs, so their first places are those of equal parts.
-use Rattle.std.proofs.Common.{◌≡◌, ◌+◌, ◌&&◌, ℕ, List, [], ◌∷◌, Bool, true, false, Option, Some, None, length, map, cond, refl, sym, ap, ◌∙◌, arith, unwrap_or}
+use Rattle.std.proofs.Common.{◌≡◌, ◌+◌, ◌&&◌, ℕ, List, [], ◌∷◌, Bool, map, refl, sym, ap, ◌∙◌}
 use Rattle.std.specs.List.{position_from, position_or_len}
-use Rattle.std.specs.Ordering.{nat_cmp, is_eq, ordering_then, match_ordering}
+use Rattle.std.specs.Ordering.{nat_cmp, is_eq, ordering_then}
 use Rattle.std.specs.Cmp.Lexicographic.{slice_cmp}
 use Rattle.std.specs.Str.{bytes_eq}
 use Rattle.std.specs.declared.cmp.Ordering.{Ordering}
 use Rattle.std.specs.declared.cmp.Ordering.TheVariants.{Less, Equal, Greater}
 use Rattle.std.proofs.Math.Bool.{and_assoc}
 use Rattle.std.proofs.lemmas.Map.Text.{is_eq-slice_cmp}
-use Rattle.xc_report.specs.Names.{Name, is_same_name}
-use Rattle.xc_report.specs.Keys.{Key, is_same_key}
+use Rattle.xc_report.specs.Names.{is_same_name}
+use Rattle.xc_report.specs.Keys.{is_same_key}
 use Rattle.xc_report.specs.Views.{name_view, key_view}
 use Rattle.xc_report.specs.declared.names.Name as lent_name
 use Rattle.xc_report.specs.declared.keys.Key as lent_key

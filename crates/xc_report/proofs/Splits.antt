@@ -1,5 +1,5 @@
 -- A text splits exactly where it is two plain names joined by a colon.
-use Rattle.std.proofs.Common.{◌≡◌, ◌+◌, ◌<◌, ◌≤◌, ◌==◌, ◌&&◌, nat_lt, ℕ, zero, suc, List, [], ◌∷◌, ◌++◌, Bool, true, false, Option, Some, None, option_and_then, length, take, drop, codes, IsUtf8, cond, refl, sym, ap, subst, ◌∙◌, arith, lit<, true≢false, if◌then◌else◌}
+use Rattle.std.proofs.Common.{◌≡◌, ◌+◌, ◌<◌, ◌&&◌, nat_lt, ℕ, suc, List, [], ◌∷◌, ◌++◌, Bool, true, false, Option, Some, None, option_and_then, length, take, drop, IsUtf8, refl, sym, ap, subst, ◌∙◌, arith, lit<, true≢false, if◌then◌else◌}
 use Rattle.std.specs.List.{list_all, position_or_len, before_first, after_first}
 use Rattle.std.specs.Str.{chars, NonePass, NoCharPasses}
 use Rattle.std.proofs.Math.ListN.{get_or}
@@ -9,8 +9,8 @@ use Rattle.std.proofs.lemmas.Bool.{eqb-true, ltb-true, false_from_ne_true}
 use Rattle.std.proofs.lemmas.List.{get_or_append_left, get_or_at, length-append}
 use Rattle.std.proofs.lemmas.List.Sums.{split_at_first, passes_at_first, position_or_len_is}
 use Rattle.std.proofs.lemmas.Str.{encodes-chars, NoCharPasses-byte, IsUtf8-take, IsCharBoundary-before_ascii}
-use Rattle.xc_report.proofs.Tests.{both}
-use Rattle.xc_report.specs.Names.{is_name_char, is_plain_name, begins_name, is_colon, around_colon, both_plain, split, IsJoined}
+use Rattle.xc_report.proofs.Conjunctions.{both}
+use Rattle.xc_report.specs.Names.{is_name_char, is_plain_name, begins_name, is_colon, both_plain, split, IsJoined}
 
 drop_past : (xs : List ℕ) (y : ℕ) (ys : List ℕ) → drop (length xs + 1) (xs ++ y ∷ ys) ≡ ys
 drop_past [] y ys = refl

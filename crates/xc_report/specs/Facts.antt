@@ -1,6 +1,9 @@
 -- The plain facts of the members of `facts`, for names that are asked for.
-use Rattle.std.specs.Prelude.{ℕ, ◌==◌, ◌&&◌, ◌||◌, List, [], ◌∷◌, Bool, ℤ, codes, find, take, map, filter_map, not, is_some, Option, Some, None, option_map, option_and_then, if◌then◌else◌}
+use Rattle.std.specs.Prelude.{ℕ, ◌==◌, ◌&&◌, ◌||◌, List, Bool, ℤ, codes, find, take, map, not, is_some, Option, Some, None, option_map, option_and_then}
 use Rattle.std.specs.List.{list_any, enumerate_from, position_from, position_or_len}
+use Rattle.std.specs.List.Sorted.{IsStrictlySortedBy}
+use Rattle.std.specs.Ordering.{nat_cmp}
+use Rattle.std.specs.Cmp.Lexicographic.{slice_cmp}
 use Rattle.serde_json.specs.Data.{Data}
 use Rattle.serde_json.specs.Find.{get}
 use Rattle.xc_report.specs.Names.{Name, text_at, expanded, is_same_name}
@@ -70,6 +73,18 @@ make_named id stated = record { id = id; stated = stated }
 -- the plain fact of a member, where its concept is one of the names
 abbrev pub named_of : Data → List Name → List ℕ × Data → Option Named
 named_of namespaces names m = option_map (make_named m.0) (stated_of namespaces names m.1)
+
+-- the ids of plain facts
+abbrev pub named_ids : List Named → List (List ℕ)
+named_ids facts = map (λ fact. fact.id) facts
+
+-- each id is below all that follow it, as bytes
+abbrev pub IsAscending : List (List ℕ) → Type 0
+IsAscending ids = IsStrictlySortedBy (slice_cmp nat_cmp) ids
+
+-- the ids of facts ascend
+abbrev pub IdsAscend : List PlainFact → Type 0
+IdsAscend facts = IsAscending (map (λ fact. fact.id) facts)
 
 -- the key of a plain fact
 abbrev pub key_in : Named → Key

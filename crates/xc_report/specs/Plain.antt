@@ -1,7 +1,8 @@
 -- Plain reports, and what is answered of bytes.
-use Rattle.std.specs.Prelude.{◌≡◌, ℕ, List, [], ◌∷◌, ◌&&◌, Bool, true, false, Option, Some, None, Result, Ok, Err, IsErrOf, map, filter_map, option_map, option_and_then, is_some, codes, String, string_bytes, if◌then◌else◌}
+use Rattle.std.specs.Prelude.{◌≡◌, ℕ, List, ◌&&◌, Bool, false, Option, Some, None, Result, Ok, Err, IsErrOf, map, filter_map, option_and_then, is_some, codes, String, string_bytes, if◌then◌else◌}
 use Rattle.std.specs.declared.alloc.Global.{Global}
 use Rattle.std.specs.List.{list_all}
+use Rattle.std.specs.Option.{option_map_or}
 use Rattle.std.specs.Str.{bytes_eq, is_utf8}
 use Rattle.serde_json.specs.Data.{Data, Members}
 use Rattle.serde_json.specs.Find.{get, as_str, as_object}
@@ -22,9 +23,13 @@ json_of bytes = if is_utf8 bytes then read bytes else None
 abbrev pub info_of : Data → Option Data
 info_of d = get (codes "documentInfo") d
 
--- the document type is that of xBRL-JSON (xBRL-JSON 1.0, section 2)
+-- the document type of xBRL-JSON 1.0
 abbrev pub is_json_type : List ℕ → Bool
 is_json_type text = bytes_eq text (codes "https://xbrl.org/2021/xbrl-json")
+
+-- the information of a report of this type
+abbrev pub has_json_type : Data → Bool
+has_json_type info = option_map_or is_json_type (text_at (codes "documentType") info) false
 
 -- a member whose value is a text
 abbrev pub is_text : List ℕ × Data → Bool
@@ -35,12 +40,13 @@ abbrev pub are_texts : Option Members → Bool
 are_texts None = false
 are_texts (Some ms) = list_all is_text (member_list ms)
 
--- what prefixes stand for, in the information of a report of this document type
-abbrev pub namespaces_in : Data → Option Data
-namespaces_in info = option_and_then (λ type. if is_json_type type then option_and_then (λ namespaces. if are_texts (as_object namespaces) then Some namespaces else None) (get (codes "namespaces") info) else None) (text_at (codes "documentType") info)
+-- the object of texts that says what prefixes stand for
+abbrev pub declared_in : Data → Option Data
+declared_in info = option_and_then (λ namespaces. if are_texts (as_object namespaces) then Some namespaces else None) (get (codes "namespaces") info)
 
+-- the same, in a report of the type of xBRL-JSON
 abbrev pub namespaces_of : Data → Option Data
-namespaces_of d = option_and_then namespaces_in (info_of d)
+namespaces_of d = option_and_then (λ info. if has_json_type info then declared_in info else None) (info_of d)
 
 -- the members of `facts`
 abbrev pub facts_of : Data → Option Members

@@ -1,9 +1,9 @@
 // The plain facts of members of `facts`.
-ghost use Rattle.std.specs.Prelude.{◌≡◌, option_map, map};
+ghost use Rattle.std.specs.Prelude.{◌≡◌, option_map, map, IfOk};
 ghost use Rattle.serde_json.specs.View.{view, members_view};
-ghost use Rattle.xc_report.specs.Facts.{dimensions_of, concept_of, value_of, content_of};
+ghost use Rattle.xc_report.specs.Facts.{dimensions_of, concept_of, value_of, content_of, named_ids, IsAscending};
 ghost use Rattle.xc_report.specs.Steps.{FactAnswers, FactsAnswers};
-ghost use Rattle.xc_report.specs.Views.{name_view, content_view};
+ghost use Rattle.xc_report.specs.Views.{name_view, content_view, named_view};
 
 use crate::firsts::Firsts;
 use crate::keys::{Key, key_of};
@@ -44,7 +44,8 @@ pub fn read_facts<'a>(
     names: &Firsts<Name<'a>>,
     members: &'a Map<String, Value>,
 ) -> Result<Vec<Named<'a>>, PlainFault>
-    ensures { FactsAnswers result (view namespaces.now) (map name_view names.now) (members_view members.now.entries) }
+    ensures answers { FactsAnswers result (view namespaces.now) (map name_view names.now) (members_view members.now.entries) }
+    ensures ascending { IfOk result (λ facts. IsAscending (named_ids (map named_view facts.items))) }
 {
     let mut facts = Vec::new(alloc);
     for (id, fact) in members {

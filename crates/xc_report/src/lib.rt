@@ -1,7 +1,8 @@
 //! Reports in xBRL-JSON: names, and the facts of plain reports.
 //!
-//! A plain report is one whose named facts have the entity, a moment, one measure and a short
-//! whole number; of any other this crate answers that it is not plain yet.
+//! A report is plain for some concepts where each of their facts has an entity, an instant, a unit
+//! of one measure and no other dimension, a whole number of at most 12 digits as its value, and
+//! decimals from -6 to 6.
 #![tactic(auto)]
 
 mod facts;

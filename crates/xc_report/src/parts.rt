@@ -1,11 +1,10 @@
 // The JSON value of a report, and the parts of it that facts are read from.
 ghost use Rattle.std.specs.Prelude.{◌≡◌, Some, None, IfOk, IfErr, option_map};
-ghost use Rattle.std.specs.Str.{bytes_eq};
 ghost use Rattle.std.specs.List.{list_all};
 ghost use Rattle.serde_json.specs.Find.{as_object};
 ghost use Rattle.serde_json.specs.View.{view, members_view};
 ghost use Rattle.xc_report.specs.Keys.{member_list};
-ghost use Rattle.xc_report.specs.Plain.{json_of, namespaces_of, namespaces_in, facts_of, are_texts, is_text, is_json_type};
+ghost use Rattle.xc_report.specs.Plain.{json_of, namespaces_of, has_json_type, declared_in, facts_of, are_texts, is_text};
 ghost use Rattle.xc_report.specs.declared.plain.PlainFault.{PlainFault};
 
 use crate::names::text_at;
@@ -37,9 +36,13 @@ pub fn read_json(alloc: Global, bytes: &[u8]) -> Result<Value, PlainFault>
 pub fn namespaces_of(report: &Value) -> Option<&Value>
     ensures { option_map (λ namespaces. view namespaces.now) result ≡ namespaces_of (view report.now) }
 {
-    match report.get("documentInfo") {
-        Some(info) => namespaces_in(info),
-        None => None,
+    let Some(info) = report.get("documentInfo") else {
+        return None;
+    };
+    if has_json_type(info) {
+        declared_in(info)
+    } else {
+        None
     }
 }
 
@@ -50,24 +53,25 @@ pub fn facts_of(report: &Value) -> Option<&Map<String, Value>>
     report.get("facts").and_then(Value::as_object)
 }
 
-fn namespaces_in(info: &Value) -> Option<&Value>
-    ensures { option_map (λ namespaces. view namespaces.now) result ≡ namespaces_in (view info.now) }
+fn has_json_type(info: &Value) -> bool
+    ensures { result ≡ has_json_type (view info.now) }
 {
-    let Some(document_type) = text_at(info, "documentType") else {
+    match text_at(info, "documentType") {
+        Some(text) => text == DOCUMENT_TYPE,
+        None => false,
+    }
+}
+
+fn declared_in(info: &Value) -> Option<&Value>
+    ensures { option_map (λ namespaces. view namespaces.now) result ≡ declared_in (view info.now) }
+{
+    let Some(namespaces) = info.get("namespaces") else {
         return None;
     };
-    if document_type != DOCUMENT_TYPE {
-        return None;
-    }
-    match info.get("namespaces") {
-        Some(namespaces) => {
-            if are_texts(namespaces) {
-                Some(namespaces)
-            } else {
-                None
-            }
-        }
-        None => None,
+    if are_texts(namespaces) {
+        Some(namespaces)
+    } else {
+        None
     }
 }
 

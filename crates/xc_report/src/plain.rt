@@ -1,5 +1,6 @@
 // Plain reports.
-ghost use Rattle.std.specs.Prelude.{◌≡◌, Some};
+ghost use Rattle.std.specs.Prelude.{◌≡◌, Some, IfOk};
+ghost use Rattle.xc_report.specs.Facts.{IdsAscend};
 ghost use Rattle.serde_json.specs.View.{view, members_view};
 ghost use Rattle.xc_report.specs.Plain.{Answers, plain_answer, parts_answer, facts_answer, node_texts};
 ghost use Rattle.xc_report.specs.declared.plain.PlainFault.TheVariants.{Memory};
@@ -72,7 +73,8 @@ impl<T: Drop> From<AllocFailed<T>> for PlainFault {
 /// Want of memory aside, the faults come in this order: `NotJson`, `NotYet`, `TwoFacts`.
 #[tactic(auto, unfolding(crate::specs::Plain::parts_answer))]
 pub fn read_plain(alloc: Global, bytes: &[u8], nodes: &[String]) -> Result<Plain, PlainFault>
-    ensures { Answers result (plain_answer bytes.now (node_texts nodes.now)) }
+    ensures answers { Answers result (plain_answer bytes.now (node_texts nodes.now)) }
+    ensures ascending { IfOk result (λ plain. IdsAscend plain.facts) }
 {
     let value = read_json(alloc, bytes)?;
     let Some(namespaces) = namespaces_of(&value) else {
@@ -92,7 +94,8 @@ fn read_parts(
     facts: &Map<String, Value>,
     nodes: &[String],
 ) -> Result<Plain, PlainFault>
-    ensures { Answers result (parts_answer (node_texts nodes.now) (Some (view namespaces.now)) (Some (members_view facts.now.entries))) }
+    ensures answers { Answers result (parts_answer (node_texts nodes.now) (Some (view namespaces.now)) (Some (members_view facts.now.entries))) }
+    ensures ascending { IfOk result (λ plain. IdsAscend plain.facts) }
 {
     let names = Firsts::of(alloc, read_names(alloc, namespaces, nodes)?)?;
     let places = node_places(alloc, &names)?;
@@ -102,7 +105,8 @@ fn read_parts(
 
 // The facts, where no two are of one data point.
 fn check_points(alloc: Global, nodes: Vec<u64>, facts: Vec<PlainFact>) -> Result<Plain, PlainFault>
-    ensures { Answers result (facts_answer nodes.items facts.items) }
+    ensures answers { Answers result (facts_answer nodes.items facts.items) }
+    ensures ascending { IdsAscend facts.items → IfOk result (λ plain. IdsAscend plain.facts) }
 {
     match first_double(alloc, &facts) {
         Ok(None) => Ok(Plain {

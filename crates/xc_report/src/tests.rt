@@ -5,9 +5,20 @@ use std::test::Fail;
 const HEAD: &str =
     r#"{"documentInfo":{"documentType":"https://xbrl.org/2021/xbrl-json","namespaces":{"eg":"http://example.com/t","e":"http://example.com/e","iso4217":"http://www.xbrl.org/2003/iso4217","cur":"http://www.xbrl.org/2003/iso4217"},"taxonomy":["t.xsd"]},"facts":{"#;
 
-// The words are a fact's id, concept, value, decimals, day and unit.
-fn fact(alloc: Global, words: [&str; 6]) -> Result<String, AllocError> {
-    let [id, concept, value, decimals, day, unit] = words;
+// A fact of the entity e:1, as a report writes it.
+#[derive(Clone, Copy)]
+struct Fact<'a> {
+    id: &'a str,
+    concept: &'a str,
+    value: &'a str,
+    decimals: &'a str,
+    day: &'a str,
+    unit: &'a str,
+}
+
+fn written(alloc: Global, fact: &Fact<'_>) -> Result<String, AllocError> {
+    let (id, value, decimals) = (fact.id, fact.value, fact.decimals);
+    let (concept, day, unit) = (fact.concept, fact.day, fact.unit);
     let start = format!(in alloc; "\"{id}\":{{\"value\":\"{value}\",\"decimals\":{decimals},")?;
     let dimensions = format!(in alloc;
         "\"concept\":\"{concept}\",\"entity\":\"e:1\",\"period\":\"{day}T00:00:00\",\"unit\":\"{unit}\""
@@ -15,13 +26,13 @@ fn fact(alloc: Global, words: [&str; 6]) -> Result<String, AllocError> {
     format!(in alloc; "{start}\"dimensions\":{{{dimensions}}}}}")
 }
 
-fn report(alloc: Global, facts: &[[&str; 6]]) -> Result<String, AllocError> {
+fn report(alloc: Global, facts: &[Fact<'_>]) -> Result<String, AllocError> {
     let mut text = String::from_str(alloc, HEAD)?;
-    for (at, words) in facts.iter().enumerate() {
+    for (at, fact) in facts.iter().enumerate() {
         if at > 0 {
             text.push_str(",")?;
         }
-        text.push_str(fact(alloc, *words)?.as_str())?;
+        text.push_str(written(alloc, fact)?.as_str())?;
     }
     text.push_str("}}")?;
     Ok(text)
@@ -58,33 +69,72 @@ fn plain_reports_are_read(rt: HostRuntime) -> Result<(), Fail> {
     for node in ["eg:T", "eg:A", "eg:B", "eg:A"] {
         nodes.push(String::from_str(alloc, node)?)?;
     }
-    let (day, eur) = ("2024-01-01", "iso4217:EUR");
-    let t = ["t", "eg:T", "100", "0", day, eur];
-    let a = ["a", "eg:A", "50", "0", day, eur];
-    let b = ["b", "eg:B", "50", "0", day, eur];
-    let second = ["t2", "eg:T", "100", "0", day, eur];
-    let broken = ["t", "eg:T", "101.5", "0", day, eur];
-    let long = ["c", "eg:A", "-999999999999", "-6", "2024-01-02", "cur:EUR"];
-    let other = ["d", "eg:C", "words", "null", "", ""];
-    let same_key = ["e", "eg:B", "007", "6", "2024-01-02", eur];
+    let t = Fact {
+        id: "t",
+        concept: "eg:T",
+        value: "100",
+        decimals: "0",
+        day: "2024-01-01",
+        unit: "iso4217:EUR",
+    };
+    let a = Fact {
+        id: "a",
+        concept: "eg:A",
+        value: "50",
+        ..t
+    };
+    let b = Fact {
+        id: "b",
+        concept: "eg:B",
+        ..a
+    };
+    let long = Fact {
+        value: "-999999999999",
+        decimals: "-6",
+        unit: "cur:EUR",
+        ..a
+    };
+    let later = Fact {
+        id: "c",
+        day: "2024-01-02",
+        ..b
+    };
+    let other = Fact {
+        id: "d",
+        concept: "eg:C",
+        value: "words",
+        unit: "",
+        ..t
+    };
+    let plain = [t, b, a];
+    let double = [Fact { id: "t2", ..t }, t, a];
+    let broken = [
+        a,
+        b,
+        Fact {
+            value: "101.5",
+            ..t
+        },
+    ];
+    let mixed = [t, long, later, other];
     for (facts, want) in [
-        ([t, b, a], "a 1 0 50 0,b 2 0 50 0,t 0 0 100 0, 0 1 2 1"),
-        ([second, t, a], "two facts t2"),
-        ([a, b, broken], "not yet"),
         (
-            [long, other, same_key],
-            "c 1 0 -999999999999 -6,e 2 0 7 6, 0 1 2 1",
+            plain.as_slice(),
+            "a 1 0 50 0,b 2 0 50 0,t 0 0 100 0, 0 1 2 1",
+        ),
+        (double.as_slice(), "two facts t2"),
+        (broken.as_slice(), "not yet"),
+        (
+            mixed.as_slice(),
+            "a 1 0 -999999999999 -6,c 2 1 50 0,t 0 0 100 0, 0 1 2 1",
         ),
     ] {
-        let text = report(alloc, facts.as_slice())?;
+        let text = report(alloc, facts)?;
         let answer = told(alloc, read_plain(alloc, text.as_bytes(), nodes.as_slice()))?;
         assert_eq!(rt; answer.as_str(), want);
     }
-    let answer = told(
-        alloc,
-        read_plain(alloc, b"{\"facts\":{}".as_slice(), nodes.as_slice()),
-    )?;
-    assert_eq!(rt; answer.as_str(), "not JSON");
+    let cut = read_plain(alloc, b"{\"facts\":{}".as_slice(), nodes.as_slice());
+    assert_eq!(rt; told(alloc, cut)?.as_str(), "not JSON");
     assert_eq!(rt; split("eg:T"), Some(("eg", "T")));
     Ok(())
 }

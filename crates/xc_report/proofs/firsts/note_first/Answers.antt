@@ -1,4 +1,4 @@
-use Rattle.std.proofs.Common.{◌≡◌, subst, cond, Some, sym, ap, ◌∙◌}
+use Rattle.std.proofs.Common.{cond, Some, sym, ap, ◌∙◌}
 use Rattle.std.specs.BTreeMap.{get, is_at}
 use Rattle.xc_report.proofs.FirstPlaces.{index_stays, index_grows}
 use Rattle.xc_report.proofs.firsts.note_first.Goals as goal

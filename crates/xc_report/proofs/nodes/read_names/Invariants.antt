@@ -1,5 +1,4 @@
 use Rattle.std.proofs.Common.{◌≡◌, ◌++◌, map, drop}
-use Rattle.std.specs.List.{filter_map, list_all}
 use Rattle.serde_json.specs.View.{view}
 use Rattle.xc_report.specs.Plain.{node_texts, names_of, are_names}
 use Rattle.xc_report.specs.Views.{name_view}

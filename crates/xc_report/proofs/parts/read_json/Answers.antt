@@ -1,4 +1,4 @@
-use Rattle.std.proofs.Common.{refl, ◌≡◌, true, rules}
+use Rattle.std.proofs.Common.{refl, rules}
 use Rattle.serde_json.specs.Errors.{IsMemory}
 use Rattle.xc_report.proofs.Json.{json_read, json_none}
 use Rattle.xc_report.proofs.parts.read_json.Goals as goal

@@ -1,4 +1,4 @@
-use Rattle.std.proofs.Common.{◌≡◌, take}
+use Rattle.std.proofs.Common.{take}
 use Rattle.std.specs.BTreeMap.{get}
 use Rattle.xc_report.specs.Firsts.{IsIndex}
 use Rattle.xc_report.proofs.firsts.Firsts.of.Given as goal

@@ -47,7 +47,7 @@ node_of namespaces names fact = option_and_then (place_of names) (concept_of nam
 abbrev pub value_of : Data → Option ℤ
 value_of fact = option_and_then plain_value (text_at (codes "value") fact)
 
--- what key, value and decimals make
+-- the content of a key, a value and decimals, where each is there
 abbrev pub parts_content : Option Key → Option ℤ → Option ℤ → Option Content
 parts_content (Some key) (Some value) (Some decimals) = Some (record { key = key; value = value; decimals = decimals })
 parts_content _ _ _ = None
@@ -60,6 +60,7 @@ content_of namespaces fact = parts_content (option_and_then (key_of namespaces) 
 abbrev pub is_plain_fact : Data → List Name → Data → Bool
 is_plain_fact namespaces names fact = is_some (concept_of namespaces fact) && (not (is_some (node_of namespaces names fact)) || is_some (content_of namespaces fact))
 
+-- what is stated of a node
 abbrev pub make_stated : ℕ → Content → Stated
 make_stated node content = record { node = node; content = content }
 
@@ -67,6 +68,7 @@ make_stated node content = record { node = node; content = content }
 abbrev pub stated_of : Data → List Name → Data → Option Stated
 stated_of namespaces names fact = option_and_then (λ node. option_map (make_stated node) (content_of namespaces fact)) (node_of namespaces names fact)
 
+-- what is stated under an id
 abbrev pub make_named : List ℕ → Stated → Named
 make_named id stated = record { id = id; stated = stated }
 
@@ -98,6 +100,7 @@ keys_of facts = map key_in facts
 abbrev pub key_number : List Key → Key → ℕ
 key_number keys key = position_or_len (is_same_key key) keys
 
+-- a plain fact, whose key has this number
 abbrev pub with_number : ℕ → Named → PlainFact
 with_number key fact = record { id = fact.id; node = fact.stated.node; key = key; value = fact.stated.content.value; decimals = Some fact.stated.content.decimals }
 

@@ -42,10 +42,11 @@ entity_of namespaces dimensions = option_and_then (expanded_loosely namespaces) 
 abbrev pub unit_of : Data → Data → Option Name
 unit_of namespaces dimensions = option_and_then (expanded namespaces) (text_at (codes "unit") dimensions)
 
+-- the key of these three parts
 abbrev pub make_key : Name → List ℕ → Name → Key
 make_key entity period unit = record { entity = entity; period = period; unit = unit }
 
--- the key that entity, period and unit make
+-- the same, where each part is there
 abbrev pub parts_key : Option Name → Option (List ℕ) → Option Name → Option Key
 parts_key (Some entity) (Some period) (Some unit) = Some (make_key entity period unit)
 parts_key _ _ _ = None

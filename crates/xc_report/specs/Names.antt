@@ -61,6 +61,7 @@ pub record IsJoined (text prefix local : List ℕ) : Type 0 where
 abbrev pub text_at : List ℕ → Data → Option (List ℕ)
 text_at name d = option_and_then as_str (get name d)
 
+-- the name of these two parts
 abbrev pub make_name : List ℕ → List ℕ → Name
 make_name local uri = record { uri = uri; local = local }
 

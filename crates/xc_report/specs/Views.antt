@@ -16,18 +16,23 @@ use Rattle.xc_report.specs.declared.plain.PlainFact.{PlainFact}
 abbrev pub pair_view : Bor (List ℕ) × Bor (List ℕ) → List ℕ × List ℕ
 pair_view p = (p.0.now, p.1.now)
 
+-- a lent name
 abbrev pub name_view : lent_name.Name → Name
 name_view n = record { uri = n.uri.now; local = n.local.now }
 
+-- a lent key
 abbrev pub key_view : lent_key.Key → Key
 key_view k = record { entity = name_view k.entity; period = k.period.now; unit = name_view k.unit }
 
+-- a lent content
 abbrev pub content_view : lent_content.Content → Content
 content_view c = record { key = key_view c.key; value = c.value; decimals = c.decimals }
 
+-- what a lent fact states
 abbrev pub stated_view : lent_stated.Stated → Stated
 stated_view s = record { node = s.node; content = content_view s.content }
 
+-- a lent fact
 abbrev pub named_view : lent_named.Named → Named
 named_view n = record { id = n.id.now; stated = stated_view n.stated }
 

@@ -15,7 +15,7 @@ use serde_json::{Map, Value};
 use std::alloc::Global;
 
 /// What a plain fact says of its concept.
-#[derive(Clone, Copy, Debug)]
+#[derive(Clone, Copy)]
 pub struct Content<'a> {
     pub key: Key<'a>,
     pub value: i64,
@@ -23,14 +23,14 @@ pub struct Content<'a> {
 }
 
 /// What a plain fact says, with the place of its concept among the names.
-#[derive(Clone, Copy, Debug)]
+#[derive(Clone, Copy)]
 pub struct Stated<'a> {
     pub node: u64,
     pub content: Content<'a>,
 }
 
 /// A plain fact, lent by the report: the name of its member, and what it states.
-#[derive(Clone, Copy, Debug)]
+#[derive(Clone, Copy)]
 pub struct Named<'a> {
     pub id: &'a str,
     pub stated: Stated<'a>,

@@ -10,7 +10,7 @@ use crate::values::is_moment;
 use serde_json::{Map, Value};
 
 /// All dimensions of a fact but its concept, lent by the report.
-#[derive(Clone, Copy, Debug, PartialEq, Eq, PartialOrd, Ord)]
+#[derive(Clone, Copy, PartialEq, Eq, PartialOrd, Ord)]
 pub struct Key<'a> {
     pub entity: Name<'a>,
     pub period: &'a str,

@@ -9,7 +9,7 @@ ghost use Rattle.xc_report.specs.Views.{name_view, pair_view};
 use serde_json::Value;
 
 /// A namespace's URI and a local part, lent by the document that they stand in.
-#[derive(Clone, Copy, Debug, PartialEq, Eq, PartialOrd, Ord)]
+#[derive(Clone, Copy, PartialEq, Eq, PartialOrd, Ord)]
 pub struct Name<'a> {
     pub uri: &'a str,
     pub local: &'a str,

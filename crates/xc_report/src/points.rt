@@ -11,7 +11,7 @@ use std::alloc::Global;
 use xc_frac::Text;
 
 /// A data point: the place of a concept among the names, and the number of a key.
-#[derive(Clone, Copy, Debug, PartialEq, Eq, PartialOrd, Ord)]
+#[derive(Clone, Copy, PartialEq, Eq, PartialOrd, Ord)]
 pub struct Point {
     pub node: u64,
     pub key: u64,

@@ -1,0 +1,69 @@
+-- The first places in a list that grows by an item.
+use Rattle.std.proofs.Common.{◌≡◌, ◌+◌, ℕ, List, [], ◌∷◌, ◌++◌, Bool, true, false, Option, Some, None, length, cond, refl, sym, ap, ◌∙◌, arith, add-zero, zero-add, true≢false, is_some, not, unwrap_or}
+use Rattle.std.specs.List.{position_from, position_or_len}
+use Rattle.std.specs.Ordering.{is_eq, eq_by_cmp}
+use Rattle.std.specs.BTreeMap.{is_at}
+use Rattle.std.specs.Cmp.{IsTotalOrder, eq_by_cmp_equiv}
+use Rattle.std.specs.declared.cmp.Ordering.{Ordering}
+use Rattle.xc_report.specs.Firsts.{first_equal, first_or_len, IsIndex}
+
+-- a first place stays
+pub position_from-stays : {X : Type 0} (t : X → Bool) (n k : ℕ) (xs : List X) (x : X) → position_from t n xs ≡ Some k → position_from t n (xs ++ x ∷ []) ≡ Some k
+position_from-stays t n k [] x e = absurd (cc)
+position_from-stays t n k (y ∷ ys) x e = elim (t y) as (λ b. cond b (Some n) (position_from t (n + 1) ys) ≡ Some k → cond b (Some n) (position_from t (n + 1) (ys ++ x ∷ [])) ≡ Some k) [ true ↦ λ h. h | false ↦ λ h. position_from-stays t (n + 1) k ys x h ] e
+
+-- where there is none yet, a new last item may be the first
+pub position_from-push : {X : Type 0} (t : X → Bool) (n : ℕ) (xs : List X) (x : X) → position_from t n xs ≡ None → position_from t n (xs ++ x ∷ []) ≡ cond (t x) (Some (n + length xs)) None
+position_from-push t n [] x e = rw (add-zero n) refl
+position_from-push t n (y ∷ ys) x e = elim (t y) as (λ b. cond b (Some n) (position_from t (n + 1) ys) ≡ None → cond b (Some n) (position_from t (n + 1) (ys ++ x ∷ [])) ≡ cond (t x) (Some (n + length (y ∷ ys))) None) [
+  | true ↦ λ h. absurd (cc)
+  | false ↦ λ h. let same : n + 1 + length ys ≡ n + length (y ∷ ys) = omega arith in rw (← same) (position_from-push t (n + 1) ys x h)
+] e
+
+-- tests that agree find one place
+pub position_from_congr : {X : Type 0} (t u : X → Bool) (n : ℕ) (xs : List X) → ((x : X) → t x ≡ u x) → position_from t n xs ≡ position_from u n xs
+position_from_congr t u n xs same = ap (λ v. position_from v n xs) (λ i x. same x i)
+
+-- the place of the first, or how many there are
+place_or_len : {X : Type 0} (t : X → Bool) (n : ℕ) (xs : List X) → unwrap_or (position_from t n xs) (n + length xs) ≡ n + position_or_len t xs
+place_or_len t n [] = refl
+place_or_len t n (x ∷ xs) = elim (t x) as (λ b. unwrap_or (cond b (Some n) (position_from t (n + 1) xs)) (n + length (x ∷ xs)) ≡ n + cond (not b) (1 + position_or_len t xs) 0) [
+  | true ↦ sym (add-zero n)
+  | false ↦
+      let longer : n + length (x ∷ xs) ≡ n + 1 + length xs = omega arith in
+      let further : n + 1 + position_or_len t xs ≡ n + (1 + position_or_len t xs) = omega arith in
+      ap (λ m. unwrap_or (position_from t (n + 1) xs) m) longer ∙ place_or_len t (n + 1) xs ∙ further
+]
+
+-- a first place, or else the length
+pub first_or_len-first : {K : Type 0} (cmp : K → K → Ordering) (item : K) (items : List K) → unwrap_or (first_equal cmp item items) (length items) ≡ first_or_len cmp item items
+first_or_len-first {K} cmp item items =
+    let t : K → Bool = λ other. is_eq (cmp item other) in
+    ap (λ n. unwrap_or (position_from t 0 items) n) (sym (zero-add (length items))) ∙ place_or_len t 0 items ∙ zero-add (position_or_len t items)
+
+module _ {K : Type 0} {cmp : K → K → Ordering} (order : IsTotalOrder cmp) where
+  -- equal items have one first place
+  pub first_equal_congr : (x y : K) (items : List K) → is_eq (cmp x y) ≡ true → first_equal cmp x items ≡ first_equal cmp y items
+  first_equal_congr x y items e = position_from_congr (eq_by_cmp cmp x) (eq_by_cmp cmp y) 0 items (λ z. (eq_by_cmp_equiv order).congr x y z e)
+
+  settled : (items : List K) (item q : K) (o : Option ℕ) (b : Bool) → is_some (first_equal cmp item items) ≡ true → first_equal cmp q items ≡ o → is_eq (cmp q item) ≡ b → first_equal cmp q (items ++ item ∷ []) ≡ o
+  settled items item q (Some j) b found e t = position_from-stays _ 0 j items item e
+  settled items item q None true found e t = absurd (true≢false (sym found ∙ ap is_some (sym (first_equal_congr q item items t) ∙ e)))
+  settled items item q None false found e t = position_from-push _ 0 items item e ∙ ap (λ b. cond b (Some (0 + length items)) None) t
+
+  -- an item with an earlier equal changes no first place
+  pub index_stays : (look : K → Option ℕ) (items : List K) (item : K) → IsIndex cmp look items → is_some (look item) ≡ true → IsIndex cmp look (items ++ item ∷ [])
+  index_stays look items item index found = λ q. index q ∙ sym (settled items item q _ _ (sym (ap is_some (index item)) ∙ found) refl refl)
+
+  grown : (items : List K) (item q : K) (o : Option ℕ) (b : Bool) → is_some (first_equal cmp item items) ≡ false → first_equal cmp q items ≡ o → is_eq (cmp q item) ≡ b → first_equal cmp q (items ++ item ∷ []) ≡ cond b (Some (length items)) o
+  grown items item q (Some j) true none e t = absurd (true≢false (sym (ap is_some (sym (first_equal_congr q item items t) ∙ e)) ∙ none))
+  grown items item q (Some j) false none e t = position_from-stays _ 0 j items item e
+  grown items item q None b none e t = position_from-push _ 0 items item e ∙ ap (λ b. cond b (Some (0 + length items)) None) t ∙ ap (λ n. cond b (Some n) None) (zero-add (length items))
+
+  -- an item with no earlier equal is the first of its kind
+  pub index_grows : (look later : K → Option ℕ) (items : List K) (item : K) → IsIndex cmp look items → is_some (look item) ≡ false → ((q : K) → later q ≡ cond (is_at (cmp item) q) (Some (length items)) (look q)) → IsIndex cmp later (items ++ item ∷ [])
+  index_grows look later items item index none updates = λ q.
+      updates q
+      ∙ ap (λ b. cond b (Some (length items)) (look q)) ((eq_by_cmp_equiv order).symm item q)
+      ∙ ap (λ o. cond (is_eq (cmp q item)) (Some (length items)) o) (index q)
+      ∙ sym (grown items item q _ _ (sym (ap is_some (index item)) ∙ none) refl refl)

@@ -1,0 +1,13 @@
+pub mod Json
+pub mod Members
+pub mod FirstPlaces
+pub mod Orders
+pub mod Doubles
+pub mod Conjunctions
+pub mod Splits
+pub mod OnePoint
+pub mod KeyNumbers
+pub mod NotPlain
+pub mod Ascending
+pub mod Answered
+pub mod Amounts

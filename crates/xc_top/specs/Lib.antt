@@ -1,0 +1,13 @@
+pub mod Answer
+pub mod Bindings
+pub mod Ends
+pub mod Findings
+pub mod From
+pub mod Laws
+pub mod Lines
+pub mod Named
+pub mod Run
+pub mod Shown
+pub mod Status
+pub mod Verdicts
+pub mod Words

@@ -1,0 +1,51 @@
+// How a run ends.
+ghost use Rattle.std.specs.Prelude.{◌≡◌};
+ghost use Rattle.xc_top.specs.Status.{number};
+
+use xc_frac::Text;
+
+/// How a run ends. `number` gives what the program ends with.
+#[derive(Clone, Copy, Debug, PartialEq, Eq)]
+pub enum Status {
+    /// All that was asked agrees.
+    Sound,
+    /// A total disagrees with its contributors.
+    Findings,
+    /// The words are not accepted.
+    Usage,
+    /// A document is refused.
+    Refused,
+    /// Nothing disagrees, and something passes the widths in which this program computes.
+    TooWide,
+    /// A file could not be read.
+    ReadFault,
+    /// The answer could not be written.
+    WriteFault,
+    /// Memory was wanting. Nothing was written.
+    Memory,
+}
+
+/// What a run writes, and how it ends.
+#[derive(Debug, Drop)]
+pub struct Answer {
+    pub status: Status,
+    pub text: Text,
+}
+
+impl Status {
+    /// The number with which the program ends, from 0 to 7.
+    pub fn number(self) -> u8
+        ensures { result ≡ number self }
+    {
+        match self {
+            Status::Sound => 0,
+            Status::Findings => 1,
+            Status::Usage => 2,
+            Status::Refused => 3,
+            Status::TooWide => 4,
+            Status::ReadFault => 5,
+            Status::WriteFault => 6,
+            Status::Memory => 7,
+        }
+    }
+}

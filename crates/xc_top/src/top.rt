@@ -1,0 +1,84 @@
+// The top call.
+ghost use Rattle.std.specs.Prelude.{◌≡◌, ◌≢◌, ◌⊎◌, ◌≤◌, ◌<◌, ℕ, List, length, take, Some, None, true, IfSome, string_bytes};
+ghost use Rattle.std.specs.Io.KnownBytes.{Appends, Keeps};
+ghost use Rattle.xc_io.specs.Faults.{Rose};
+ghost use Rattle.xc_top.specs.Words.{words_of, texts};
+ghost use Rattle.xc_top.specs.Answer.{IsAnswerOf, make_answer, usage_line};
+ghost use Rattle.xc_top.specs.declared.status.Answer.{Answer};
+ghost use Rattle.xc_top.specs.Run.{IsAnswered, AppendsPart, IsReadFaultLine, AreHeld, IsPlainRun, IsSettled};
+
+use crate::Status;
+use crate::answer::answer_sum;
+use crate::words::read_words;
+use std::alloc::Global;
+use xc_io::{Shelf, Sink, SinkFault};
+
+const USAGE: &str = "usage: xcalc sum MODE REPORT TOTAL TERM... | check [--old-arcs] MODE REPORT DOC... | verify [--old-arcs] MODE CERTIFICATE REPORT DOC... | sample N\n";
+
+/// Does what the words ask for, over the files of the shelf, and writes the answer to the sink in one put.
+///
+/// The words are those after the program's name. Accepted are `sum rounding REPORT TOTAL TERM...` with one TERM or
+/// more: REPORT is a file's name, not empty and without `-` at its head; TOTAL is the name `prefix:local` of a concept;
+/// a TERM is `+` or `-` and such a name.
+pub fn run<S: Shelf, O: Sink>(alloc: Global, words: &[String], shelf: &mut S, out: &mut O) -> Status
+    // What is written is the answer of the words and the files, and the status is the answer's.
+    ensures answer { IfSome (S.held shelf.old) (λ files. IsAnswered result →
+        (text : List ℕ) × IsAnswerOf (texts words.now) files (make_answer result text)
+        × Appends (O.written out.old) (O.written out.new) text) }
+
+    // Only where the files that the words name are held.
+    ensures held { IfSome (S.held shelf.old) (λ files. IsAnswered result →
+        AreHeld (words_of (texts words.now)) files) }
+
+    // Usage exactly where the words are not accepted.
+    ensures usage { words_of (texts words.now) ≡ None → (result ≡ Status.Usage) ⊎ (result ≡ Status.WriteFault) }
+    ensures usage_line { result ≡ Status.Usage → (words_of (texts words.now) ≡ None)
+        × Appends (O.written out.old) (O.written out.new) usage_line }
+
+    // A read fault comes only where the shelf's count rose, over a steady shelf only where a file is not held.
+    ensures read { result ≡ Status.ReadFault → Rose (S.faults shelf.old) (S.faults shelf.new) }
+    ensures read_line { result ≡ Status.ReadFault → (line : List ℕ) × IsReadFaultLine (words_of (texts words.now)) line
+        × Appends (O.written out.old) (O.written out.new) line }
+    ensures read_steady { S.steady shelf.old ≡ true → IfSome (S.held shelf.old) (λ files. result ≡ Status.ReadFault →
+        (text : List ℕ) × IsAnswerOf (texts words.now) files (make_answer result text)
+        × Appends (O.written out.old) (O.written out.new) text) }
+
+    // A write fault comes only where the sink's count rose, and leaves a beginning of what was to be written.
+    ensures write { result ≡ Status.WriteFault → Rose (O.faults out.old) (O.faults out.new) }
+    ensures part { IfSome (S.held shelf.old) (λ files. result ≡ Status.WriteFault →
+        (answer : Answer) × (IsAnswerOf (texts words.now) files answer ⊎ IsReadFaultLine (words_of (texts words.now)) answer.text)
+        × AppendsPart (O.room out.old) (O.written out.old) (O.written out.new) answer.text) }
+
+    // Want of memory leaves nothing.
+    ensures memory { result ≡ Status.Memory → Keeps (O.written out.old) (O.written out.new) }
+
+    // Where nothing fails there is an answer, and a plain report is judged.
+    ensures completes { IfSome (S.held shelf.old) (λ files. ¬ Rose (S.faults shelf.old) (S.faults shelf.new) →
+        ¬ Rose (O.faults out.old) (O.faults out.new) →
+        (result ≡ Status.Memory) ⊎ ((answer : Answer) × IsAnswerOf (texts words.now) files answer × (result ≡ answer.status))) }
+    ensures settles { IfSome (S.held shelf.old) (λ files. ¬ Rose (S.faults shelf.old) (S.faults shelf.new) →
+        ¬ Rose (O.faults out.old) (O.faults out.new) → IsPlainRun (words_of (texts words.now)) files →
+        (result ≡ Status.Memory) ⊎ IsSettled result) }
+{
+    let Some(sum) = read_words(words) else {
+        return write_text(out, USAGE, Status::Usage);
+    };
+    match answer_sum(alloc, &sum, shelf) {
+        Ok(answer) => write_text(out, answer.text.as_str(), answer.status),
+        Err(_) => Status::Memory,
+    }
+}
+
+// Writes all that a run writes, in one put.
+fn write_text<O: Sink>(out: &mut O, text: &str, status: Status) -> Status
+    requires { status ≢ Status.WriteFault }
+    ensures written { result ≢ Status.WriteFault → (result ≡ status) × Appends (O.written out.old) (O.written out.new) text.now }
+    ensures fault { result ≡ Status.WriteFault → Rose (O.faults out.old) (O.faults out.new) }
+    ensures part { result ≡ Status.WriteFault →
+        AppendsPart (O.room out.old) (O.written out.old) (O.written out.new) text.now }
+{
+    match out.put(text.as_bytes()) {
+        Ok(()) => status,
+        Err(SinkFault::Failed) => Status::WriteFault,
+    }
+}

@@ -1,5 +1,5 @@
 -- The values and decimals of an answer are small.
-use Rattle.std.proofs.Common.{◌≡◌, ℕ, suc, ◌+◌, ◌-◌, ◌*◌, ◌^◌, ◌<◌, ◌≤◌, ◌==◌, ◌&&◌, ℤ, pos, negsuc, neg_ℤ, List, [], ◌∷◌, length, Bool, true, false, Option, Some, None, IfSome, Result, Ok, Err, fold, map, option_map, option_and_then, codes, cond, if◌then◌else◌, nat_lt, nat_le, refl, sym, ap, subst, ◌∙◌, arith, lit<}
+use Rattle.std.proofs.Common.{◌≡◌, ℕ, suc, ◌+◌, ◌-◌, ◌*◌, ◌^◌, ◌<◌, ◌≤◌, ◌==◌, ◌&&◌, ℤ, pos, negsuc, neg_ℤ, List, [], ◌∷◌, length, Bool, true, false, Option, Some, None, IfSome, Ok, fold, map, option_map, option_and_then, codes, if◌then◌else◌, nat_lt, nat_le, refl, sym, ap, subst, arith, lit<}
 use Rattle.std.specs.Prelude.{unsigned_abs, All}
 use Rattle.std.specs.List.{list_all, filter_map, cons_option}
 use Rattle.std.specs.Char.{is_ascii_digit}
@@ -9,12 +9,11 @@ use Rattle.std.proofs.lemmas.Int.{ints}
 use Rattle.std.proofs.lemmas.List.Elements.{All-nil, All-cons, All-head, All-tail}
 use Rattle.serde_json.specs.Data.{Data, Members}
 use Rattle.serde_json.specs.Find.{get, as_number, as_i64}
-use Rattle.xc_report.specs.Facts.{Named, Stated, Content, IsPlainAmount, content_of, stated_of, named_of, node_of, make_named, make_stated, parts_content, value_of, numbered, plain_facts, keys_of, key_in, key_number, with_number}
+use Rattle.xc_report.specs.Facts.{Named, Content, IsPlainAmount, content_of, stated_of, named_of, node_of, make_named, make_stated, parts_content, value_of, numbered, plain_facts, keys_of}
 use Rattle.xc_report.specs.Keys.{Key, member_list}
 use Rattle.xc_report.specs.Names.{Name, text_at}
 use Rattle.xc_report.specs.Plain.{named_facts, data_answer}
 use Rattle.xc_report.specs.declared.plain.Plain.{Plain}
-use Rattle.xc_report.specs.declared.plain.PlainFault.{PlainFault}
 use Rattle.xc_report.proofs.Answered.{made}
 use Rattle.xc_report.proofs.Conjunctions.{both}
 use Rattle.xc_report.specs.Values.{number_of, digits_value, plain_value, small, plain_decimals}

@@ -1,18 +1,13 @@
 -- No two facts of an answer are of one data point.
-use Rattle.std.proofs.Common.{◌≡◌, ◌+◌, ◌<◌, ℕ, zero, suc, List, [], ◌∷◌, Bool, true, false, Option, Some, None, Result, Ok, Err, AllPairs, find, length, take, option_map, cond, subst, refl, sym, ap, ◌∙◌, arith, add-zero, true≢false, if◌then◌else◌}
+use Rattle.std.proofs.Common.{◌≡◌, ◌+◌, ◌<◌, ℕ, zero, suc, List, [], ◌∷◌, Bool, true, false, Option, Some, None, AllPairs, find, length, take, cond, refl, sym, ap, ◌∙◌, arith, add-zero, true≢false}
 use Rattle.std.specs.List.{enumerate_from}
 use Rattle.std.proofs.Math.ListN.{get_or}
 use Rattle.std.proofs.lemmas.Bool.Decides.{nat_tests}
 use Rattle.std.proofs.lemmas.List.{get_or-take, length-take}
 use Rattle.std.proofs.lemmas.List.Folds.{list_any_at}
-use Rattle.serde_json.specs.Data.{Data, Members}
-use Rattle.xc_report.specs.Facts.{is_same_point, has_double, plain_facts}
-use Rattle.xc_report.specs.Plain.{namespaces_of, facts_of, names_of, named_facts, node_places, is_plain, parts_answer, data_answer, facts_answer, double_answer}
+use Rattle.xc_report.specs.Facts.{is_same_point, has_double}
 use Rattle.xc_report.specs.Laws.{IsSamePoint}
 use Rattle.xc_report.specs.declared.plain.PlainFact.{PlainFact}
-use Rattle.xc_report.specs.declared.plain.Plain.{Plain}
-use Rattle.xc_report.specs.declared.plain.PlainFault.{PlainFault}
-use Rattle.xc_report.specs.declared.plain.PlainFault.TheVariants.{NotYet}
 
 -- where a search finds nothing, the first fails and the rest has none
 step : {X : Type 0} (b : Bool) (x : X) (rest : Option X) → cond b (Some x) rest ≡ None → (b ≡ false) × (rest ≡ None)

@@ -71,7 +71,13 @@ pub fn counts_line(alloc: Global, bindings: usize, points: usize) -> Result<Stri
     let points = points.to_string(alloc)?;
     joined(
         alloc,
-        &["bindings ", bindings.as_str(), " points ", points.as_str(), "\n"],
+        &[
+            "bindings ",
+            bindings.as_str(),
+            " points ",
+            points.as_str(),
+            "\n",
+        ],
     )
 }
 
@@ -104,7 +110,15 @@ pub fn placed_refusal_line(
     let place = printed(alloc, place)?;
     joined(
         alloc,
-        &["refused ", name.as_str(), " ", code, " ", place.as_str(), "\n"],
+        &[
+            "refused ",
+            name.as_str(),
+            " ",
+            code,
+            " ",
+            place.as_str(),
+            "\n",
+        ],
     )
 }
 

@@ -5,7 +5,8 @@ use std::process::Abort;
 use std::test::Fail;
 use xc_io::{MemoryShelf, MemorySink};
 
-const HEAD: &str = "{\"documentInfo\":{\"documentType\":\"https://xbrl.org/2021/xbrl-json\",\"namespaces\":{\"eg\":\"http://example.com/t\",\"same\":\"http://example.com/t\",\"e\":\"http://example.com/e\",\"iso4217\":\"http://www.xbrl.org/2003/iso4217\"},\"taxonomy\":[\"t.xsd\"]},\"facts\":{";
+const HEAD: &str =
+    "{\"documentInfo\":{\"documentType\":\"https://xbrl.org/2021/xbrl-json\",\"namespaces\":{\"eg\":\"http://example.com/t\",\"same\":\"http://example.com/t\",\"e\":\"http://example.com/e\",\"iso4217\":\"http://www.xbrl.org/2003/iso4217\"},\"taxonomy\":[\"t.xsd\"]},\"facts\":{";
 
 // A report of facts that are written `id value concept year`, each to 0 decimals, with `;` between two.
 fn report_of(alloc: Global, facts: &str) -> Result<String, Fail> {
@@ -171,7 +172,8 @@ fn reports_are_refused(rt: HostRuntime) -> Result<(), Fail> {
     Ok(())
 }
 
-const USAGE: &str = "usage: xcalc sum MODE REPORT TOTAL TERM... | check [--old-arcs] MODE REPORT DOC... | verify [--old-arcs] MODE CERTIFICATE REPORT DOC... | sample N\n";
+const USAGE: &str =
+    "usage: xcalc sum MODE REPORT TOTAL TERM... | check [--old-arcs] MODE REPORT DOC... | verify [--old-arcs] MODE CERTIFICATE REPORT DOC... | sample N\n";
 
 #[test]
 fn words_are_refused(rt: HostRuntime) -> Result<(), Fail> {
@@ -204,7 +206,14 @@ fn ids_are_escaped(rt: HostRuntime) -> Result<(), Fail> {
         let report = report_of(alloc, facts.as_str())?;
         let text = format!(in alloc; "bindings 1 points 2\nbinding 0 consistent sum {printed}\n")?;
         let words = "sum rounding r.json eg:T +eg:A";
-        expect(&rt, alloc, report.as_bytes(), words, text.as_str(), Status::Sound)?;
+        expect(
+            &rt,
+            alloc,
+            report.as_bytes(),
+            words,
+            text.as_str(),
+            Status::Sound,
+        )?;
     }
     Ok(())
 }
@@ -215,7 +224,11 @@ fn read_faults_are_told(rt: HostRuntime) -> Result<(), Fail> {
     let alloc = rt.alloc();
     for (failing, words, text) in [
         (vec![in alloc; 0]?, SUM, b"read-fault r.json\n".as_slice()),
-        (Vec::new(alloc), "sum rounding x%y eg:T +eg:A", b"read-fault x%25y\n".as_slice()),
+        (
+            Vec::new(alloc),
+            "sum rounding x%y eg:T +eg:A",
+            b"read-fault x%25y\n".as_slice(),
+        ),
     ] {
         let mut shelf = shelf_of(alloc, b"{}".to_vec(alloc)?, failing)?;
         let mut out = MemorySink::new(alloc, 1000, Vec::new(alloc))?;
@@ -232,7 +245,11 @@ fn write_faults_are_told(rt: HostRuntime) -> Result<(), Fail> {
     let alloc = rt.alloc();
     let report = report_of(alloc, "a 100 A 2024;t 100 T 2024;")?;
     for (room, failing, text) in [
-        (1000, vec![in alloc; 0]?, b"bindings 1 points 2\nbin".as_slice()),
+        (
+            1000,
+            vec![in alloc; 0]?,
+            b"bindings 1 points 2\nbin".as_slice(),
+        ),
         (8, Vec::new(alloc), b"bindings".as_slice()),
     ] {
         let mut shelf = shelf_of(alloc, report.as_bytes().to_vec(alloc)?, Vec::new(alloc))?;

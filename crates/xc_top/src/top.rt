@@ -13,7 +13,8 @@ use crate::words::read_words;
 use std::alloc::Global;
 use xc_io::{Shelf, Sink, SinkFault};
 
-const USAGE: &str = "usage: xcalc sum MODE REPORT TOTAL TERM... | check [--old-arcs] MODE REPORT DOC... | verify [--old-arcs] MODE CERTIFICATE REPORT DOC... | sample N\n";
+const USAGE: &str =
+    "usage: xcalc sum MODE REPORT TOTAL TERM... | check [--old-arcs] MODE REPORT DOC... | verify [--old-arcs] MODE CERTIFICATE REPORT DOC... | sample N\n";
 
 /// Does what the words ask for, over the files of the shelf, and writes the answer to the sink in one put.
 ///

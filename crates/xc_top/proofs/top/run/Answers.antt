@@ -14,8 +14,7 @@ returns-in-Ok-clause-answer g c =
           let wrote = c.write_text-in-Ok.ensures.written (no_write_fault _ answered) in
           absurd (no_read_fault _ answered (wrote.0 ∙ is_read)))
       | inr is_none ↦ if_then (g.S.Shelf.held c.args.shelf.now) (λ files told answered.
-          let wrote = c.write_text-in-Ok.ensures.written (no_write_fault _ answered) in
-          (
+          let wrote = c.write_text-in-Ok.ensures.written (no_write_fault _ answered) in (
             c.in-Ok.answer.text,
             same_answer _ files _ c.in-Ok.answer wrote.0 (sum_answer _ (named c.in-Some.sum) files _ c.in-Some.ensures told),
             subst (λ t. Appends (g.O.Sink.written c.args.out.now) (g.O.Sink.written c.write_text-in-Ok.new.out) t) c.as_str.ensures wrote.1,
@@ -26,8 +25,7 @@ pub returns-in-Ok-clause-read_steady : goal.returns-in-Ok-clause-read_steady
 returns-in-Ok-clause-read_steady g c = λ steady.
     elim (read_fault_or_none c.in-Ok.answer.status) [
       | inl is_read ↦ if_then (g.S.Shelf.held c.args.shelf.now) (λ files told ended.
-          let wrote = c.write_text-in-Ok.ensures.written (λ failed. absurd (read_or_write (sym ended ∙ failed))) in
-          (
+          let wrote = c.write_text-in-Ok.ensures.written (λ failed. absurd (read_or_write (sym ended ∙ failed))) in (
             c.in-Ok.answer.text,
             same_answer _ files _ c.in-Ok.answer wrote.0 (sum_answer _ (named c.in-Some.sum) files _ c.in-Some.ensures told),
             subst (λ t. Appends (g.O.Sink.written c.args.out.now) (g.O.Sink.written c.write_text-in-Ok.new.out) t) c.as_str.ensures wrote.1,

@@ -1,5 +1,5 @@
 -- Words and files have one answer.
-use Rattle.std.proofs.Common.{◌≡◌, ℕ, List, [], ◌∷◌, length, drop, Bool, true, false, Option, Some, None, Result, Ok, Err, nat_lt, codes, refl, sym, ap, ◌∙◌}
+use Rattle.std.proofs.Common.{◌≡◌, ℕ, List, [], ◌∷◌, length, Bool, true, false, Option, Some, None, Result, Ok, Err, nat_lt, refl, sym, ap, ◌∙◌}
 use Rattle.std.specs.Prelude.{MatchBool}
 use Rattle.xc_io.specs.Shelf.{Files}
 use Rattle.xc_report.specs.Plain.{plain_answer}
@@ -10,7 +10,7 @@ use Rattle.xc_top.specs.Answer.{IsFindings, IsReportAnswer, IsFileAnswer, IsAnsw
 use Rattle.xc_top.specs.Bindings.{SumBinding}
 use Rattle.xc_top.specs.Findings.{findings_of, status_of}
 use Rattle.xc_top.specs.Verdicts.{IsVerdict, AreVerdicts}
-use Rattle.xc_top.specs.Words.{SumWords, words_of}
+use Rattle.xc_top.specs.Words.{SumWords}
 use Rattle.xc_top.specs.declared.status.Answer.{Answer}
 use Rattle.xc_top.specs.declared.verdict.Verdict.{Verdict}
 use Rattle.xc_top.specs.declared.verdict.Verdict.TheVariants.{Consistent, Inconsistent}

@@ -1,6 +1,6 @@
 -- How a run ended: steps from what its parts say.
-use Rattle.std.proofs.Common.{◌≡◌, ◌⊎◌, ℕ, ◌≤◌, List, length, Bool, true, false, Option, Some, None, Result, Ok, Err, IfSome, refl, sym, subst, inl, inr, nat_lt, ap, ◌∙◌, cond, arith}
-use Rattle.std.specs.Prelude.{MatchBool, codes, IsSome, IsSomeAnd}
+use Rattle.std.proofs.Common.{◌≡◌, ◌⊎◌, ℕ, ◌≤◌, List, length, true, false, Option, Some, None, Result, Ok, IfSome, refl, sym, subst, inl, inr, nat_lt, cond, arith}
+use Rattle.std.specs.Prelude.{MatchBool, codes, IsSomeAnd}
 use Rattle.std.specs.List.{list_any}
 use Rattle.std.proofs.lemmas.Bool.Decides.{nat_tests}
 use Rattle.xc_io.specs.Shelf.{Files}
@@ -11,7 +11,7 @@ use Rattle.xc_top.specs.Words.{SumWords}
 use Rattle.xc_top.specs.Answer.{IsAnswer, IsFileAnswer, IsReportAnswer, IsFindings, limit, nodes_of, make_answer, usage_line}
 use Rattle.xc_top.specs.Findings.{status_of, is_inconsistent}
 use Rattle.xc_top.specs.Lines.{read_fault_line, refusal_line}
-use Rattle.xc_top.specs.Run.{IsAnswered, IsReadFaultLine, AreHeld, IsPlainReport, IsPlainRun, IsSettled}
+use Rattle.xc_top.specs.Run.{IsAnswered, IsReadFaultLine, IsPlainReport, IsPlainRun, IsSettled}
 use Rattle.xc_top.specs.declared.status.Answer.{Answer}
 use Rattle.xc_top.specs.declared.status.Status.{Status}
 use Rattle.xc_top.specs.declared.status.Status.TheVariants.{Sound, Findings, Usage, Refused, TooWide, ReadFault, WriteFault, Memory}
@@ -34,19 +34,7 @@ sum_answer words sum files answer e h = subst (λ w. IsAnswer w files answer) e 
 pub fault_line : (words : Option SumWords) (sum : SumWords) (text : List ℕ) → Some sum ≡ words → text ≡ read_fault_line sum.report → IsReadFaultLine words text
 fault_line words sum text e h = subst (λ w. IsReadFaultLine w text) e h
 
--- words that are not accepted name no file
-pub usage_held : (words : Option SumWords) (files : Files) → None ≡ words → AreHeld words files
-usage_held words files e = subst (λ w. AreHeld w files) e tt
-
-held_if : (sum : SumWords) (held : Option (List ℕ)) (answer : Answer) → IsFileAnswer sum held answer → IsAnswered answer.status → IsSome held
-held_if sum None answer is answered = absurd (subst (λ a. IsAnswered a.status) is answered)
-held_if sum (Some bytes) answer is answered = refl
-
--- where the answer is none of a failed fetch, the report is held
-pub sum_held : (words : Option SumWords) (sum : SumWords) (files : Files) (answer : Answer) → Some sum ≡ words → IsFileAnswer sum (files sum.report) answer → IsAnswered answer.status → AreHeld words files
-sum_held words sum files answer e is answered = subst (λ w. AreHeld w files) e (held_if sum (files sum.report) answer is answered)
-
--- the words that are not accepted ask for no report
+-- words that are not accepted ask for no report
 pub usage_unsettled : {A : Type 0} (words : Option SumWords) (files : Files) → None ≡ words → IsPlainRun words files → A
 usage_unsettled words files e plain = absurd (subst (λ w. IsPlainRun w files) (sym e) plain)
 

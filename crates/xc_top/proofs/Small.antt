@@ -1,11 +1,11 @@
 -- The bindings of plain facts have small amounts.
-use Rattle.std.proofs.Common.{◌≡◌, ◌==◌, ◌&&◌, ℕ, cond, List, [], ◌∷◌, Option, Some, None, Bool, true, false, find, option_map, IfSome, refl}
+use Rattle.std.proofs.Common.{◌==◌, ◌&&◌, ℕ, cond, List, [], ◌∷◌, Option, Some, None, Bool, true, false, find, option_map, IfSome}
 use Rattle.std.specs.Prelude.{All}
 use Rattle.std.specs.List.{filter_map, cons_option}
 use Rattle.std.proofs.lemmas.List.Elements.{All-nil, All-cons, All-head, All-tail}
 use Rattle.xc_report.specs.Facts.{IsPlainAmount}
 use Rattle.xc_report.specs.declared.plain.PlainFact.{PlainFact}
-use Rattle.xc_top.specs.Bindings.{SumBinding, amount_of, fact_at, make_term, term_of, terms_of, with_terms, is_total, binding_of, bindings_of}
+use Rattle.xc_top.specs.Bindings.{amount_of, fact_at, make_term, term_of, terms_of, with_terms, is_total, binding_of, bindings_of}
 use Rattle.xc_top.specs.Ends.{IsSmall, IsSmallTerm, IsSmallBinding}
 use Rattle.xc_top.specs.declared.bindings.Arc.{Arc}
 use Rattle.xc_top.specs.declared.bindings.Term.{Term}

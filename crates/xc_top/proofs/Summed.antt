@@ -7,7 +7,7 @@ use Rattle.std.proofs.lemmas.List.{drop_more}
 use Rattle.xc_model.specs.Ratio.{IsOver, fraction_of}
 use Rattle.xc_model.specs.Width.{SumPasses}
 use Rattle.xc_model.proofs.Over.{sum_room}
-use Rattle.xc_top.specs.Ends.{unit, IsSmall, IsSmallPlace, IsSmallTerm, half_of, low_of, high_of, signed_low, signed_high, sum_low, sum_high}
+use Rattle.xc_top.specs.Ends.{unit, IsSmall, IsSmallPlace, IsSmallTerm, half_of, signed_low, signed_high, sum_low, sum_high}
 use Rattle.xc_top.specs.From.{IsFrom}
 use Rattle.xc_top.specs.declared.bindings.Amount.{Amount}
 use Rattle.xc_top.specs.declared.bindings.Term.{Term}

@@ -1,6 +1,6 @@
 -- A sum of closed intervals has exactly the sums of one value of each: so a total agrees with its contributors
 -- exactly where the ends overlap.
-use Rattle.std.proofs.Common.{◌≡◌, ◌⊎◌, ℕ, zero, suc, ◌+◌, ◌-◌, ◌*◌, ◌^◌, ◌<◌, ◌≤◌, ℤ, pos, negsuc, ◌+ℤ◌, ◌-ℤ◌, ◌*ℤ◌, neg_ℤ, ◌≤ℤ◌, ◌<ℤ◌, List, [], ◌∷◌, Option, Some, None, Bool, true, false, refl, sym, ap, subst, ◌∙◌, inl, inr, arith, lit<}
+use Rattle.std.proofs.Common.{◌≡◌, ℕ, zero, suc, ◌+◌, ◌-◌, ◌*◌, ◌^◌, ◌<◌, ◌≤◌, ℤ, pos, negsuc, ◌+ℤ◌, ◌-ℤ◌, ◌*ℤ◌, neg_ℤ, ◌≤ℤ◌, List, [], ◌∷◌, Option, Some, None, Bool, true, false, refl, sym, ap, ◌∙◌, arith, lit<}
 use Rattle.std.specs.Prelude.{unsigned_abs, All}
 use Rattle.std.proofs.lemmas.Int.{ints, by_lt_z}
 use Rattle.std.proofs.lemmas.List.Elements.{All-head, All-tail}
@@ -8,7 +8,7 @@ use Rattle.std.proofs.lemmas.Nat.{pow-add}
 use Rattle.std.proofs.Math.Nat.{mul-le-mul_left, le_of_mul-le-mul_left, one-le-pow}
 use Rattle.xc_model.proofs.Integers.{ring, add-mul, neg-mul, mul_comm, cancel_le}
 use Rattle.xc_top.specs.Ends.{unit, IsSmallPlace, IsSmall, IsSmallTerm, half_of, low_of, high_of, signed_low, signed_high, sum_low, sum_high}
-use Rattle.xc_top.specs.Verdicts.{ten_to, IsWithin, AdmitsTo, Admits, EachAdmits, signed, signed_sum, Agrees}
+use Rattle.xc_top.specs.Verdicts.{ten_to, AdmitsTo, Admits, EachAdmits, signed, signed_sum, Agrees}
 use Rattle.xc_top.specs.declared.bindings.Amount.{Amount}
 use Rattle.xc_top.specs.declared.bindings.Term.{Term}
 

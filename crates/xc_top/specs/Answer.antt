@@ -1,5 +1,5 @@
 -- What a run writes and how it ends, of its words and of what is held.
-use Rattle.std.specs.Prelude.{◌≡◌, ℕ, List, [], ◌∷◌, drop, length, map, Option, Some, None, Result, Ok, Err, MatchBool, codes, nat_lt}
+use Rattle.std.specs.Prelude.{◌≡◌, ℕ, List, ◌∷◌, drop, length, map, Option, Some, None, Result, Ok, Err, MatchBool, codes, nat_lt}
 use Rattle.xc_io.specs.Shelf.{Files}
 use Rattle.xc_report.specs.Plain.{plain_answer}
 use Rattle.xc_report.specs.declared.plain.Plain.{Plain}

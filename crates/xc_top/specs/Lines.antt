@@ -1,5 +1,5 @@
 -- The output's lines, and the texts in them.
-use Rattle.std.specs.Prelude.{ℕ, ◌+◌, ◌-◌, ◌/◌, ◌%◌, ◌==◌, ◌||◌, List, [], ◌∷◌, ◌++◌, Bool, nat_lt, nat_le, codes, decimal, encode_utf8, if◌then◌else◌}
+use Rattle.std.specs.Prelude.{ℕ, ◌+◌, ◌/◌, ◌%◌, ◌==◌, ◌||◌, List, [], ◌∷◌, Bool, nat_lt, nat_le, codes, decimal, encode_utf8, if◌then◌else◌}
 use Rattle.std.specs.List.{concat, flat_map}
 use Rattle.std.specs.Str.{chars}
 use Rattle.xc_top.specs.declared.verdict.Verdict.{Verdict}

@@ -1,5 +1,5 @@
 -- What a reported amount stands for, and when a total agrees with its contributors.
-use Rattle.std.specs.Prelude.{◌≡◌, ℕ, ℤ, pos, negsuc, neg_ℤ, ◌+ℤ◌, ◌-ℤ◌, ◌*ℤ◌, ◌+◌, ◌*◌, ◌^◌, ◌<◌, ◌≤◌, unsigned_abs, List, [], ◌∷◌, Option, Some, None, Bool, true, false}
+use Rattle.std.specs.Prelude.{◌≡◌, ℕ, ℤ, pos, negsuc, neg_ℤ, ◌+ℤ◌, ◌-ℤ◌, ◌*ℤ◌, ◌*◌, ◌^◌, ◌<◌, ◌≤◌, unsigned_abs, List, [], ◌∷◌, Option, Some, None, Bool, true, false}
 use Rattle.xc_top.specs.Bindings.{SumBinding, amount_of}
 use Rattle.xc_top.specs.declared.bindings.Amount.{Amount}
 use Rattle.xc_top.specs.declared.bindings.Term.{Term}

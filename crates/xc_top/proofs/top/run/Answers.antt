@@ -1,10 +1,10 @@
-use Rattle.std.proofs.Common.{◌≡◌, inl, inr, subst, sym, ◌∙◌, ap}
+use Rattle.std.proofs.Common.{inl, inr, subst, sym, ◌∙◌}
 use Rattle.std.specs.Io.KnownBytes.{Appends}
 use Rattle.xc_top.specs.Answer.{make_answer, usage_line}
 use Rattle.xc_top.specs.Named.{named}
-use Rattle.xc_top.specs.Run.{IsAnswered, AppendsPart, IsSettled}
+use Rattle.xc_top.specs.Run.{AppendsPart, IsSettled}
 use Rattle.xc_top.specs.declared.status.Status.TheVariants as status
-use Rattle.xc_top.proofs.Ran.{if_any, if_then, usage_answer, usage_held, usage_unsettled, sum_answer, sum_held, sum_settled, fault_line, read_fault_or_none, no_read_fault, no_write_fault, same_answer, read_or_write}
+use Rattle.xc_top.proofs.Ran.{if_any, if_then, usage_answer, usage_unsettled, sum_answer, sum_settled, fault_line, read_fault_or_none, no_read_fault, no_write_fault, same_answer, read_or_write}
 use Rattle.xc_top.proofs.top.run.Goals as goal
 
 pub returns-in-Ok-clause-answer : goal.returns-in-Ok-clause-answer

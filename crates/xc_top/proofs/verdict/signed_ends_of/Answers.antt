@@ -1,4 +1,4 @@
-use Rattle.std.proofs.Common.{◌≡◌, Bool, true, subst, sym}
+use Rattle.std.proofs.Common.{Bool, true, subst, sym}
 use Rattle.xc_top.specs.Ends.{unit, low_of, high_of, signed_low, signed_high}
 use Rattle.xc_top.specs.From.{IsFrom}
 use Rattle.xc_top.proofs.verdict.signed_ends_of.Goals as goal

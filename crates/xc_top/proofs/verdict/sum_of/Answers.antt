@@ -1,6 +1,5 @@
-use Rattle.std.proofs.Common.{◌≡◌, ℕ, ◌<◌, ◌^◌, [], drop, length, arith}
-use Rattle.std.proofs.lemmas.Grind.{common_steps}
-use Rattle.xc_top.proofs.Summed.{IsNext, summed_none, next_term, low_room, high_room, summed_more, summed_all}
+use Rattle.std.proofs.Common.{arith}
+use Rattle.xc_top.proofs.Summed.{IsNext, next_term, low_room, high_room, summed_more}
 use Rattle.xc_top.proofs.verdict.sum_of.Goals as goal
 
 next : (c : goal.After-plus-arg-1) → IsNext c.args.terms.now c.loop-term.term-index c.signed_ends_of.result

@@ -1,7 +1,7 @@
-use Rattle.std.proofs.Common.{◌≡◌, ℤ, ◌≤ℤ◌, ◌<ℤ◌, Bool, true, false, subst, sym, refl, ◌∙◌, arith}
+use Rattle.std.proofs.Common.{◌≡◌, ℤ, ◌≤ℤ◌, ◌<ℤ◌, Bool, true, false, arith}
 use Rattle.std.specs.Prelude.{IsTrue, ◌↔◌}
 use Rattle.std.proofs.lemmas.Int.{ints, by_lt_z}
-use Rattle.xc_top.specs.Ends.{unit, low_of, high_of, sum_low, sum_high}
+use Rattle.xc_top.specs.Ends.{low_of, high_of, sum_low, sum_high}
 use Rattle.xc_top.proofs.Sums.{overlap_agrees, agrees_below, agrees_above}
 use Rattle.xc_top.proofs.verdict.verdict_on.Goals as goal
 

@@ -8,8 +8,9 @@ use crate::wide::Wide;
 use std::cmp::Ordering;
 
 /// Numbers with exact arithmetic, as far as results fit. A value stands for a real part and an
-/// infinitely small part, and values are ordered by the real part first. The sums and the order
-/// have the laws of an ordered group wherever results fit (`laws::pairs_are_an_ordered_group`).
+/// infinitely small part, and values are ordered by the real part first. Sums and the order have
+/// the laws of an ordered group wherever results fit: `laws::pairs_are_a_group` and
+/// `laws::pairs_are_ordered` say them of the parts.
 pub trait Exact: Copy {
     // the two parts that a value stands for
     ghost parts: { Self → Parts };
@@ -44,7 +45,8 @@ pub trait Exact: Copy {
 }
 
 /// Exact numbers without an infinitely small part, which are multiplied and divided too. They have
-/// the laws of an ordered field wherever results fit (`laws::numbers_are_an_ordered_field`).
+/// the laws of an ordered field wherever results fit: `laws::numbers_are_a_group`,
+/// `laws::numbers_are_a_field` and `laws::numbers_are_ordered` say them of the real parts.
 pub trait Scalar: Exact {
     /// The number 1.
     fn one() -> Self

@@ -1,5 +1,5 @@
-//! What follows from the definitions for all numbers. The functions do nothing: a proof calls one to
-//! have its clauses.
+//! What follows from the definitions for all numbers. The functions do nothing: code calls one where
+//! its proof needs the clauses.
 ghost use Rattle.std.specs.Prelude.{◌≡◌, pos};
 ghost use Rattle.xc_model.specs.Fraction.{Fraction, SameNumber, IsBelow, whole, neg_of, sum_of, product_of};
 ghost use Rattle.xc_model.specs.Order.{Orders};

@@ -1,4 +1,7 @@
 pub mod Answered
 pub mod ClearedTerms
 pub mod Compared
+pub mod DeltaOrder
 pub mod Inverses
+pub mod LowestTerms
+pub mod Orders

@@ -1,2 +1,5 @@
 pub mod Cleared
+pub mod Laws
 pub mod Lending
+pub mod Parts
+pub mod Passes

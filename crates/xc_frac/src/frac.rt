@@ -1,5 +1,5 @@
 ghost use Rattle.std.specs.Prelude.{◌≡◌, ◌≢◌, ℕ, ℤ, pos, neg_ℤ, ◌<◌, ◌^◌, ◌*ℤ◌, ◌+ℤ◌, ◌-ℤ◌, ◌↔◌, IsNone, IsOk, IfSome, IfNone, OnSome, IfOk, IfErr, OnOk, OnErr};
-ghost use Rattle.xc_model.specs.Fraction.{SameNumber, neg_of, sum_of, difference_of, product_of, IsQuotient};
+ghost use Rattle.xc_model.specs.Fraction.{whole, SameNumber, neg_of, sum_of, difference_of, product_of, IsQuotient};
 ghost use Rattle.xc_model.specs.Order.{Orders, OrdersInt, SameSign};
 ghost use Rattle.xc_model.specs.Ratio.{IsLowest, fraction_of, IsOver};
 ghost use Rattle.xc_model.specs.Width.{IsNarrow, SumPasses, DifferencePasses, ProductPasses, QuotientPasses};
@@ -142,6 +142,14 @@ impl Frac {
         ensures den { result.den ≡ den }
     {
         Frac { num, den }
+    }
+
+    // A whole number.
+    pub(crate) fn whole(n: i128) -> Frac
+        requires { IsNarrow n }
+        ensures { SameNumber (fraction_of result) (whole n) }
+    {
+        Frac::reduced(n, 1)
     }
 
     // num over den in lowest terms.

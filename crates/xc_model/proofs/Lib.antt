@@ -1,3 +1,4 @@
+pub mod Arithmetic
 pub mod Gauss
 pub mod Integers
 pub mod LeastCommon

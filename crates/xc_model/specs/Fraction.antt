@@ -18,6 +18,13 @@ unsigned_abs_pos z p = omega (arith, ints)
 abbrev pub over : (n d : ℤ) → pos 0 <ℤ d → Fraction
 over n d p = record { num = n; den = unsigned_abs d; positive = unsigned_abs_pos d p }
 
+pub one_positive : 0 < 1
+one_positive = omega arith
+
+-- the whole number n
+abbrev pub whole : ℤ → Fraction
+whole n = record { num = n; den = 1; positive = one_positive }
+
 -- x and y are the same number
 pub record SameNumber (x y : Fraction) : Type 0 where
   pub cross : x.num *ℤ pos y.den ≡ y.num *ℤ pos x.den

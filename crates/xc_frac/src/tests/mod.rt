@@ -1,12 +1,14 @@
+mod deltas;
+
 use super::*;
 use std::alloc::AllocError;
 use std::cmp::Ordering;
 use std::test::Fail;
 
-const MOST: i128 = i128::MAX;
+pub(super) const MOST: i128 = i128::MAX;
 
 // num / den, where neither is the least i128.
-fn fraction(num: i128, den: i128) -> Option<Frac> {
+pub(super) fn fraction(num: i128, den: i128) -> Option<Frac> {
     if num == i128::MIN || den == i128::MIN {
         return None;
     }

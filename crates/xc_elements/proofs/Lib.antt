@@ -1,0 +1,4 @@
+mod Examples
+pub mod FrontLaws
+pub mod SequenceLaws
+pub mod ItemLaws

@@ -1,0 +1,4 @@
+pub mod Characters
+pub mod Fronts
+pub mod Items
+pub mod Views

@@ -1,0 +1,68 @@
+// What stands at the front of a text, and what follows it.
+ghost use Rattle.std.specs.Prelude.{◌≡◌, ◌<◌, ◌++◌, ℕ, List, IfSome, length, option_map};
+ghost use Rattle.std.specs.Str.{chars};
+ghost use Rattle.xc_elements.specs.Fronts.{one, exactly, run, up_to};
+ghost use Rattle.xc_elements.specs.Items.{spells, spells_in_any_case};
+ghost use Rattle.xc_elements.specs.Views.{lent, at_front, behind, is_in};
+
+use crate::characters::{is_character, is_name_char, is_space};
+
+/// A class of characters that may stand in a row.
+#[derive(Clone, Copy)]
+pub(crate) enum Class {
+    /// White space.
+    Space,
+    /// What a name has.
+    Name,
+    /// What a document may have, but for this mark.
+    Between(char),
+}
+
+/// The first character, and the text behind it.
+pub(crate) fn next_char(text: &str) -> Option<(char, &str)>
+    ensures value { option_map (at_front (λ c. c)) result ≡ one (chars text.now) }
+    ensures shorter { IfSome result (λ x. length x.1.now < length text.now) }
+{
+    let mut rest = text.chars();
+    match rest.next() {
+        Some(c) => Some((c, rest.as_str())),
+        None => None,
+    }
+}
+
+/// The part of a text before a rest of it.
+fn before<'a>(text: &'a str, rest: &str) -> &'a str
+    requires { (front : List ℕ) × (chars text.now ≡ front ++ chars rest.now) }
+    ensures { (front : List ℕ) → chars text.now ≡ front ++ chars rest.now → chars result.now ≡ front }
+{
+    &text[..text.len() - rest.len()]
+}
+
+fn is_in(class: Class, c: char) -> bool
+    ensures { result ≡ is_in class c }
+{
+    match class {
+        Class::Space => is_space(c),
+        Class::Name => is_name_char(c),
+        Class::Between(mark) => is_character(c) && c != mark,
+    }
+}
+
+/// The text behind these characters, where it begins with them.
+pub(crate) fn exactly<'a>(text: &'a str, word: &[char]) -> Option<&'a str>
+    ensures { option_map behind result ≡ exactly word.now (chars text.now) }
+{
+    let mut rest = text;
+    for wanted in word {
+        match next_char(rest) {
+            Some((c, after)) => {
+                if c != *wanted {
+                    return None;
+                }
+                rest = after;
+            }
+            None => return None,
+        }
+    }
+    Some(rest)
+}

@@ -164,21 +164,11 @@ one_taken (d ∷ ds) c rest e =
 pub one_ends : Ends one
 one_ends = record { taken = one_taken }
 
-past_taken : {A : Type 0} (q : Front A) → Frees q → (text : List ℕ) (a : A) (rest : List ℕ) → past q text ≡ Some (a, rest) → Ended (past q) text a rest
-unfolding past
-past_taken q h [] a rest e = absurd cc
-past_taken q h (c ∷ cs) a rest e = let t = h.taken cs a rest e in record { piece = c ∷ t.piece; some = omega arith; whole = ap (λ (r : List ℕ). c ∷ r) t.whole; again = λ more. t.again more }
-
 pub past_ends : {A : Type 0} {q : Front A} → Frees q → Ends (past q)
-past_ends {q = q} h = record { taken = past_taken q h }
-
-past_peeked : {A : Type 0} (q : Front A) → Peeks q → (text : List ℕ) (a : A) (rest : List ℕ) → past q text ≡ Some (a, rest) → Peeked (past q) text a rest
-unfolding past
-past_peeked q h [] a rest e = absurd cc
-past_peeked q h (c ∷ cs) a rest e = let t = h.taken cs a rest e in record { piece = c ∷ t.piece; whole = ap (λ (r : List ℕ). c ∷ r) t.whole; again = λ more same. t.again more same }
+past_ends h = ends_then_frees one_ends (λ _. h)
 
 pub past_peeks : {A : Type 0} {q : Front A} → Peeks q → Peeks (past q)
-past_peeks {q = q} h = record { taken = past_peeked q h }
+past_peeks h = peeks_then_peeks (peeks_from_ends one_ends) (λ _. h)
 
 -- ---- a choice
 
@@ -195,7 +185,7 @@ if_frees true hp hq = hp
 if_frees false hp hq = hq
 
 next_again : {A : Type 0} (q : ℕ → Front A) (c : ℕ) (cs text : List ℕ) (a : A) (rest : List ℕ) → text ≡ c ∷ cs → q c text ≡ Some (a, rest) → by_next q text ≡ Some (a, rest)
-unfolding by_next
+unfolding by_next one
 next_again q c cs text a rest e f = rw e (rw e at f)
 
 next_ended : {A : Type 0} (q : ℕ → Front A) (c : ℕ) (cs : List ℕ) (a : A) (rest : List ℕ) → Ended (q c) (c ∷ cs) a rest → Ended (by_next q) (c ∷ cs) a rest
@@ -219,7 +209,7 @@ next_peeked q c cs a rest t = by_piece t.piece t.whole t.again
         again = λ more same. let head : c ≡ d = cc in next_again q c (ds ++ more) (d ∷ (ds ++ more)) a more (ap (λ x. x ∷ (ds ++ more)) (sym head)) (again more same) }
 
 by_next_taken : {A : Type 0} (q : ℕ → Front A) → ((c : ℕ) → Ends (q c)) → (text : List ℕ) (a : A) (rest : List ℕ) → by_next q text ≡ Some (a, rest) → Ended (by_next q) text a rest
-unfolding by_next
+unfolding by_next one
 by_next_taken q h [] a rest e = absurd cc
 by_next_taken q h (c ∷ cs) a rest e = next_ended q c cs a rest ((h c).taken (c ∷ cs) a rest e)
 
@@ -227,7 +217,7 @@ pub by_next_ends : {A : Type 0} {q : ℕ → Front A} → ((c : ℕ) → Ends (q
 by_next_ends {q = q} h = record { taken = by_next_taken q h }
 
 by_next_seen : {A : Type 0} (q : ℕ → Front A) → ((c : ℕ) → Peeks (q c)) → (text : List ℕ) (a : A) (rest : List ℕ) → by_next q text ≡ Some (a, rest) → Peeked (by_next q) text a rest
-unfolding by_next
+unfolding by_next one
 by_next_seen q h [] a rest e = absurd cc
 by_next_seen q h (c ∷ cs) a rest e = next_peeked q c cs a rest ((h c).taken (c ∷ cs) a rest e)
 

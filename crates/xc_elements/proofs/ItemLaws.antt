@@ -45,7 +45,7 @@ value_turn_at_peeks mark c =
     (if_peeks _ (give_peeks (More 32))
     (if_peeks _ (give_peeks (More c)) refuse_peeks))))
 
-value_turns : (mark : ℕ) → Turns (value_turn mark)
+pub value_turns : (mark : ℕ) → Turns (value_turn mark)
 unfolding value_turn
 value_turns mark = turns_from_one (value_turn_at mark) (value_turn_at_peeks mark) (λ c. last_freed _ tt
     (if_goes_on _ (then_goes_on reference (λ r. give_goes_on r))

@@ -129,16 +129,11 @@ pub if_goes_on : {A B : Type 0} (b : Bool) {p q : Front (Turn A B)} → GoesOn p
 if_goes_on true hp hq = hp
 if_goes_on false hp hq = hq
 
-past_never : {A B : Type 0} (q : Front (Turn A B)) → GoesOn q → (text : List ℕ) (b : B) (rest : List ℕ) → past q text ≡ Some (Last b, rest) → ⊥
-unfolding past
-past_never q h [] b rest e = absurd cc
-past_never q h (c ∷ cs) b rest e = h.never cs b rest e
-
 pub past_goes_on : {A B : Type 0} {q : Front (Turn A B)} → GoesOn q → GoesOn (past q)
-past_goes_on {q = q} h = record { never = past_never q h }
+past_goes_on h = then_goes_on one (λ _. h)
 
 by_next_never : {A B : Type 0} (q : ℕ → Front (Turn A B)) → ((c : ℕ) → GoesOn (q c)) → (text : List ℕ) (b : B) (rest : List ℕ) → by_next q text ≡ Some (Last b, rest) → ⊥
-unfolding by_next
+unfolding by_next one
 by_next_never q h [] b rest e = absurd cc
 by_next_never q h (c ∷ cs) b rest e = (h c).never (c ∷ cs) b rest e
 

@@ -41,15 +41,18 @@ abbrev pub give_some : {A : Type 0} → Option A → Front A
 give_some None = refuse
 give_some (Some a) = give a
 
+-- what this character decides of the text
+abbrev pub decided_by : {A : Type 0} → Option (ℕ × List ℕ) → (ℕ → Front A) → Front A
+decided_by None q text = None
+decided_by (Some x) q text = q x.0 text
+
 -- what the next character decides, which is left where it stands
 unfoldable pub by_next : {A : Type 0} → (ℕ → Front A) → Front A
-by_next q [] = None
-by_next q (c ∷ cs) = q c (c ∷ cs)
+by_next q text = decided_by (one text) q text
 
 -- one character, whichever it is, and behind it the other
-unfoldable pub past : {A : Type 0} → Front A → Front A
-past q [] = None
-past q (c ∷ cs) = q cs
+abbrev pub past : {A : Type 0} → Front A → Front A
+past q = followed_by one (λ _. q)
 
 -- exactly these characters
 unfoldable pub exactly : List ℕ → Front Unit
@@ -92,3 +95,7 @@ repeated turn (suc n) = followed_by turn (after_turn (repeated turn n))
 -- a sequence, with what ends it: each turn has a character of its own, so no text has more turns than characters
 unfoldable pub sequence : {A B : Type 0} → Front (Turn A B) → Front (List A × B)
 sequence turn text = repeated turn (length text) text
+
+-- what ends a sequence, and the text that follows it
+abbrev pub ending : {A B : Type 0} → (List A × B) × List ℕ → B × List ℕ
+ending x = (x.0.1, x.1)

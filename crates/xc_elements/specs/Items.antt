@@ -30,12 +30,14 @@ abbrev pub is_nil : List ℕ → Bool
 is_nil [] = true
 is_nil (c ∷ cs) = false
 
+-- nothing follows
+abbrev pub is_whole : Option (Unit {0} × List ℕ) → Bool
+is_whole None = false
+is_whole (Some x) = is_nil x.1
+
 -- the text is this word
 abbrev pub spells : List ℕ → List ℕ → Bool
-spells [] [] = true
-spells [] (w ∷ ws) = false
-spells (c ∷ cs) [] = false
-spells (c ∷ cs) (w ∷ ws) = c == w && spells cs ws
+spells text word = is_whole (exactly word text)
 
 -- the text is this word, which is written in small letters, in capital or small letters of ASCII
 abbrev pub spells_in_any_case : List ℕ → List ℕ → Bool
@@ -71,15 +73,15 @@ abbrev pub character_numbered : ℕ → List ℕ → Option ℕ
 character_numbered base [] = None
 character_numbered base (d ∷ ds) = character_from base 0 (d ∷ ds)
 
--- the character that `x41` or `65` names
-abbrev pub character_behind_hash : List ℕ → Option ℕ
-character_behind_hash [] = None
-character_behind_hash (c ∷ cs) = if c == 120 then character_numbered 16 cs else character_numbered 10 (c ∷ cs)
+-- the character that `x41` or `65` names, by what begins it
+abbrev pub character_by_mark : Option (ℕ × List ℕ) → List ℕ → Option ℕ
+character_by_mark None text = None
+character_by_mark (Some x) text = if x.0 == 120 then character_numbered 16 x.1 else character_numbered 10 text
 
--- the character that `#x41` or `#65` names
-abbrev pub numbered_referent : List ℕ → Option ℕ
-numbered_referent [] = None
-numbered_referent (c ∷ cs) = if c == 35 then character_behind_hash cs else None
+-- the character that `#x41` or `#65` names, by what begins it
+abbrev pub character_by_hash : Option (ℕ × List ℕ) → Option ℕ
+character_by_hash None = None
+character_by_hash (Some x) = if x.0 == 35 then character_by_mark (one x.1) x.1 else None
 
 -- the character that stands for what is written between `&` and `;`: XML 1.0, sections 4.1 and 4.6
 unfoldable pub referent : List ℕ → Option ℕ
@@ -89,7 +91,7 @@ referent name =
     else if spells name (codes "amp") then Some 38
     else if spells name (codes "quot") then Some 34
     else if spells name (codes "apos") then Some 39
-    else numbered_referent name
+    else character_by_hash (one name)
 
 unfoldable pub reference : Front ℕ
 reference = up_to (codes ";") >>= λ name. give_some (referent name)

@@ -2,7 +2,7 @@
 ghost use Rattle.std.specs.Prelude.{◌≡◌, ◌<◌, ◌++◌, ℕ, List, IfSome, length, option_map};
 ghost use Rattle.std.specs.Str.{chars};
 ghost use Rattle.xc_elements.specs.Fronts.{one, exactly, run, up_to};
-ghost use Rattle.xc_elements.specs.Items.{spells, spells_in_any_case};
+ghost use Rattle.xc_elements.specs.Items.{is_nil, spells, spells_in_any_case};
 ghost use Rattle.xc_elements.specs.Views.{lent, at_front, behind, is_in};
 
 use crate::characters::{is_character, is_name_char, is_space};
@@ -65,4 +65,74 @@ pub(crate) fn exactly<'a>(text: &'a str, word: &[char]) -> Option<&'a str>
         }
     }
     Some(rest)
+}
+
+/// The characters of a class at the front of a text, up to the first that is not of it, and the text from there on.
+pub(crate) fn run(text: &str, class: Class) -> Option<(&str, &str)>
+    ensures { option_map (at_front lent) result ≡ run (is_in class) (chars text.now) }
+{
+    let mut rest = text;
+    while let Some((c, after)) = next_char(rest) {
+        if !is_in(class, c) {
+            return Some((before(text, rest), rest));
+        }
+        rest = after;
+    }
+    None
+}
+
+/// The text before the first place at which the characters of a mark stand, and the text behind these.
+pub(crate) fn up_to<'a>(text: &'a str, mark: &[char]) -> Option<(&'a str, &'a str)>
+    ensures { option_map (at_front lent) result ≡ up_to mark.now (chars text.now) }
+{
+    let mut rest = text;
+    while let Some((c, after)) = next_char(rest) {
+        if let Some(end) = exactly(rest, mark) {
+            return Some((before(text, rest), end));
+        }
+        if !is_character(c) {
+            return None;
+        }
+        rest = after;
+    }
+    None
+}
+
+/// Whether a text is this word.
+pub(crate) fn spells(text: &str, word: &[char]) -> bool
+    ensures { result ≡ spells (chars text.now) word.now }
+{
+    match exactly(text, word) {
+        Some(rest) => is_nothing(rest),
+        None => false,
+    }
+}
+
+/// Whether a text is empty.
+pub(crate) fn is_nothing(text: &str) -> bool
+    ensures { result ≡ is_nil (chars text.now) }
+{
+    match next_char(text) {
+        Some(_) => false,
+        None => true,
+    }
+}
+
+/// Whether a text is this word of small letters, written in capital or small letters of ASCII.
+pub(crate) fn spells_in_any_case(text: &str, word: &[char]) -> bool
+    ensures { result ≡ spells_in_any_case (chars text.now) word.now }
+{
+    let mut rest = text;
+    for wanted in word {
+        match next_char(rest) {
+            Some((c, after)) => {
+                if c.to_ascii_lowercase() != *wanted {
+                    return false;
+                }
+                rest = after;
+            }
+            None => return false,
+        }
+    }
+    is_nothing(rest)
 }

@@ -8,3 +8,4 @@ pub mod NumberLaws
 pub mod ReadLaws
 pub mod StepLaws
 pub mod LoopLaws
+pub mod CutLaws

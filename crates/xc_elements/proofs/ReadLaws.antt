@@ -32,7 +32,7 @@ passed_more p text rest after c t e step = record {
   left = t.left ∙ ap (λ o. option_map (put_all t.front) o) step ∙ put_one_more t.front c (p after);
 }
 
-append-nil : (xs : List ℕ) → xs ++ [] ≡ xs
+pub append-nil : (xs : List ℕ) → xs ++ [] ≡ xs
 append-nil [] = refl
 append-nil (x ∷ xs) = ap (λ (r : List ℕ). x ∷ r) (append-nil xs)
 

@@ -2,3 +2,4 @@ pub mod Characters
 pub mod Fronts
 pub mod Items
 pub mod Views
+pub mod Documents

@@ -37,7 +37,7 @@ pub enum Item<'a> {
 /// The item at the front of a text, and the text behind it. The text may be that of a whole document, or what follows its
 /// first items.
 #[tactic(auto, unfolding(crate::specs::Fronts::followed_by, crate::specs::Fronts::give, crate::specs::Fronts::refuse, crate::specs::Fronts::by_next, crate::specs::Items::item))]
-pub(crate) fn item_at(text: &str, is_first: bool) -> Option<(Item<'_>, &str)>
+pub fn item_at(text: &str, is_first: bool) -> Option<(Item<'_>, &str)>
     ensures { option_map (at_front item_view) result ≡ item is_first (chars text.now) }
 {
     let Some((c, rest)) = next_char(text) else {

@@ -4,13 +4,18 @@
 mod attributes;
 pub mod characters;
 mod declarations;
+mod documents;
+mod fault;
 mod items;
+pub mod laws;
 mod names;
 mod references;
 mod tags;
 mod texts;
 
 pub use attributes::{WrittenAttribute, WrittenValue};
-pub use items::Item;
+pub use documents::{fault_at, item_fault, text_of};
+pub use fault::ItemFault;
+pub use items::{Item, item_at};
 pub use names::QualifiedName;
 pub use tags::{Tag, TagPart};

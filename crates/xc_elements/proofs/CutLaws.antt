@@ -1,10 +1,10 @@
 -- A text is cut into items in one way.
-use Rattle.std.proofs.Common.{◌≡◌, ℕ, ◌+◌, ◌<◌, Bool, true, false, List, [], ◌∷◌, ◌++◌, length, Option, Some, None, refl, sym, ap, ◌∙◌, append_assoc, arith}
+use Rattle.std.proofs.Common.{◌≡◌, ℕ, ◌<◌, Bool, true, false, List, [], ◌∷◌, ◌++◌, length, Some, None, refl, sym, ap, ◌∙◌, append_assoc}
 use Rattle.std.proofs.lemmas.List.{append_cancel_right}
 use Rattle.xc_elements.specs.Fronts.{one, by_next}
 use Rattle.xc_elements.specs.Items.{Meaning, item}
 use Rattle.xc_elements.specs.Documents.{Piece, AreItems, joined, Cuts, begins, OneCut, OneFault}
-use Rattle.xc_elements.proofs.FrontLaws.{found, same_answer, Ended, Ends}
+use Rattle.xc_elements.proofs.FrontLaws.{same_answer}
 use Rattle.xc_elements.proofs.ItemLaws.{item_ends}
 use Rattle.xc_elements.proofs.ReadLaws.{append-nil}
 
@@ -78,7 +78,8 @@ begun (q ∷ qs) p = refl
 -- one more item
 pub cuts_more : (text rest after : List ℕ) (ps : List Piece) (m : Meaning) → Cuts true text ps rest → item (begins true ps) rest ≡ Some (m, after) → (qs : List Piece) × Cuts true text qs after × (begins true qs ≡ false)
 cuts_more text rest after ps m c e =
-    let t = item_piece (begins true ps) rest after m e in
-    (ps ++ piece_of t.0 m ∷ [],
-     record { items = items_more true ps (piece_of t.0 m) c.items t.2; whole = c.whole ∙ ap (λ (r : List ℕ). joined ps ++ r) t.1 ∙ sym (joined_more ps t.0 m after) },
-     begun ps (piece_of t.0 m))
+    let t = item_piece (begins true ps) rest after m e in (
+      ps ++ piece_of t.0 m ∷ [],
+      record { items = items_more true ps (piece_of t.0 m) c.items t.2; whole = c.whole ∙ ap (λ (r : List ℕ). joined ps ++ r) t.1 ∙ sym (joined_more ps t.0 m after) },
+      begun ps (piece_of t.0 m),
+    )

@@ -1,5 +1,5 @@
 -- What a front takes is decided by the characters that it takes, or by these and the one behind them.
-use Rattle.std.proofs.Common.{◌≡◌, ℕ, zero, suc, ◌+◌, ◌<◌, ◌≤◌, Bool, true, false, cond, List, [], ◌∷◌, ◌++◌, length, Option, Some, None, refl, sym, ap, subst, ◌∙◌, append_assoc, arith, ◌⊎◌, inl, inr, eq-eqb}
+use Rattle.std.proofs.Common.{◌≡◌, ℕ, ◌<◌, ◌≤◌, Bool, true, false, cond, List, [], ◌∷◌, ◌++◌, length, Option, Some, None, refl, sym, ap, ◌∙◌, append_assoc, arith, ◌⊎◌, inl, inr, eq-eqb}
 use Rattle.std.specs.Prelude.{option_map, is_some, ◌==◌}
 use Rattle.std.proofs.lemmas.List.{length-append}
 use Rattle.std.proofs.lemmas.Bool.{eqb-true}
@@ -82,17 +82,19 @@ same_through (c ∷ cs) rest more head e h = rw e refl
 
 pub peeks_then_peeks : {A B : Type 0} {p : Front A} {q : A → Front B} → Peeks p → ((a : A) → Peeks (q a)) → Peeks (followed_by p q)
 unfolding followed_by
-peeks_then_peeks {p = p} {q = q} hp hq = record { taken = λ text b rest e.
-    let s = split (p text) q (b, rest) e in
-    let x = s.0 in
-    let t = hp.taken text x.0 x.1 s.1 in
-    let u = (hq x.0).taken x.1 b rest s.2 in
-    record {
-      piece = t.piece ++ u.piece;
-      whole = t.whole ∙ ap (λ (r : List ℕ). t.piece ++ r) u.whole ∙ sym (append_assoc t.piece u.piece rest);
-      again = λ more same. rw (append_assoc t.piece u.piece more)
-          (going_on (p (t.piece ++ (u.piece ++ more))) q x.0 (u.piece ++ more) (t.again (u.piece ++ more) (same_through u.piece rest more x.1 u.whole same)) ∙ u.again more same);
-    } }
+peeks_then_peeks {p = p} {q = q} hp hq = record {
+  taken = λ text b rest e.
+      let s = split (p text) q (b, rest) e in
+      let x = s.0 in
+      let t = hp.taken text x.0 x.1 s.1 in
+      let u = (hq x.0).taken x.1 b rest s.2 in
+      record {
+        piece = t.piece ++ u.piece;
+        whole = t.whole ∙ ap (λ (r : List ℕ). t.piece ++ r) u.whole ∙ sym (append_assoc t.piece u.piece rest);
+        again = λ more same. rw (append_assoc t.piece u.piece more)
+            (going_on (p (t.piece ++ (u.piece ++ more))) q x.0 (u.piece ++ more) (t.again (u.piece ++ more) (same_through u.piece rest more x.1 u.whole same)) ∙ u.again more same);
+      };
+}
 
 pub same_behind : (piece rest more head : List ℕ) → head ≡ piece ++ rest → 0 < length piece → SameHead head (piece ++ more)
 same_behind [] rest more head e h = absurd (omega arith)
@@ -100,41 +102,47 @@ same_behind (c ∷ cs) rest more head e h = rw e refl
 
 pub peeks_then_ends : {A B : Type 0} {p : Front A} {q : A → Front B} → Peeks p → ((a : A) → Ends (q a)) → Ends (followed_by p q)
 unfolding followed_by
-peeks_then_ends {p = p} {q = q} hp hq = record { taken = λ text b rest e.
-    let s = split (p text) q (b, rest) e in
-    let x = s.0 in
-    let t = hp.taken text x.0 x.1 s.1 in
-    let u = (hq x.0).taken x.1 b rest s.2 in
-    record {
-      piece = t.piece ++ u.piece;
-      some = omega (arith, length-append t.piece u.piece, u.some);
-      whole = t.whole ∙ ap (λ (r : List ℕ). t.piece ++ r) u.whole ∙ sym (append_assoc t.piece u.piece rest);
-      again = λ more. rw (append_assoc t.piece u.piece more)
-          (going_on (p (t.piece ++ (u.piece ++ more))) q x.0 (u.piece ++ more) (t.again (u.piece ++ more) (same_behind u.piece rest more x.1 u.whole u.some)) ∙ u.again more);
-    } }
+peeks_then_ends {p = p} {q = q} hp hq = record {
+  taken = λ text b rest e.
+      let s = split (p text) q (b, rest) e in
+      let x = s.0 in
+      let t = hp.taken text x.0 x.1 s.1 in
+      let u = (hq x.0).taken x.1 b rest s.2 in
+      record {
+        piece = t.piece ++ u.piece;
+        some = omega (arith, length-append t.piece u.piece, u.some);
+        whole = t.whole ∙ ap (λ (r : List ℕ). t.piece ++ r) u.whole ∙ sym (append_assoc t.piece u.piece rest);
+        again = λ more. rw (append_assoc t.piece u.piece more)
+            (going_on (p (t.piece ++ (u.piece ++ more))) q x.0 (u.piece ++ more) (t.again (u.piece ++ more) (same_behind u.piece rest more x.1 u.whole u.some)) ∙ u.again more);
+      };
+}
 
 pub ends_then_frees : {A B : Type 0} {p : Front A} {q : A → Front B} → Ends p → ((a : A) → Frees (q a)) → Ends (followed_by p q)
 unfolding followed_by
-ends_then_frees {p = p} {q = q} hp hq = record { taken = λ text b rest e.
-    let s = split (p text) q (b, rest) e in
-    let x = s.0 in
-    let t = hp.taken text x.0 x.1 s.1 in
-    let u = (hq x.0).taken x.1 b rest s.2 in
-    record {
-      piece = t.piece ++ u.piece;
-      some = omega (arith, length-append t.piece u.piece, t.some);
-      whole = t.whole ∙ ap (λ (r : List ℕ). t.piece ++ r) u.whole ∙ sym (append_assoc t.piece u.piece rest);
-      again = λ more. rw (append_assoc t.piece u.piece more)
-          (going_on (p (t.piece ++ (u.piece ++ more))) q x.0 (u.piece ++ more) (t.again (u.piece ++ more)) ∙ u.again more);
-    } }
+ends_then_frees {p = p} {q = q} hp hq = record {
+  taken = λ text b rest e.
+      let s = split (p text) q (b, rest) e in
+      let x = s.0 in
+      let t = hp.taken text x.0 x.1 s.1 in
+      let u = (hq x.0).taken x.1 b rest s.2 in
+      record {
+        piece = t.piece ++ u.piece;
+        some = omega (arith, length-append t.piece u.piece, t.some);
+        whole = t.whole ∙ ap (λ (r : List ℕ). t.piece ++ r) u.whole ∙ sym (append_assoc t.piece u.piece rest);
+        again = λ more. rw (append_assoc t.piece u.piece more)
+            (going_on (p (t.piece ++ (u.piece ++ more))) q x.0 (u.piece ++ more) (t.again (u.piece ++ more)) ∙ u.again more);
+      };
+}
 
 -- ---- the small ones
 
 pub give_frees : {A : Type 0} (a : A) → Frees (give a)
 unfolding give
-give_frees a = record { taken = λ text b rest e.
-    let same = same_answer a b text rest e in
-    record { piece = []; whole = same.1; again = λ more. ap (λ x. Some (x, more)) same.0 } }
+give_frees a = record {
+  taken = λ text b rest e.
+      let same = same_answer a b text rest e in
+      record { piece = []; whole = same.1; again = λ more. ap (λ x. Some (x, more)) same.0 };
+}
 
 pub refuse_frees : {A : Type 0} → Frees (refuse {A = A})
 unfolding refuse
@@ -193,8 +201,12 @@ next_ended q c cs a rest t = by_piece t.piece t.some t.whole t.again
   where
     by_piece : (piece : List ℕ) → 0 < length piece → (c ∷ cs) ≡ piece ++ rest → ((more : List ℕ) → q c (piece ++ more) ≡ Some (a, more)) → Ended (by_next q) (c ∷ cs) a rest
     by_piece [] some whole again = absurd (omega arith)
-    by_piece (d ∷ ds) some whole again = record { piece = d ∷ ds; some = some; whole = whole;
-        again = λ more. let same : c ≡ d = cc in next_again q c (ds ++ more) (d ∷ (ds ++ more)) a more (ap (λ x. x ∷ (ds ++ more)) (sym same)) (again more) }
+    by_piece (d ∷ ds) some whole again = record {
+      piece = d ∷ ds;
+      some = some;
+      whole = whole;
+      again = λ more. let same : c ≡ d = cc in next_again q c (ds ++ more) (d ∷ (ds ++ more)) a more (ap (λ x. x ∷ (ds ++ more)) (sym same)) (again more);
+    }
 
 next_peeked : {A : Type 0} (q : ℕ → Front A) (c : ℕ) (cs : List ℕ) (a : A) (rest : List ℕ) → Peeked (q c) (c ∷ cs) a rest → Peeked (by_next q) (c ∷ cs) a rest
 next_peeked q c cs a rest t = by_piece t.piece t.whole t.again
@@ -205,8 +217,11 @@ next_peeked q c cs a rest t = by_piece t.piece t.whole t.again
 
     by_piece : (piece : List ℕ) → (c ∷ cs) ≡ piece ++ rest → ((more : List ℕ) → SameHead rest more → q c (piece ++ more) ≡ Some (a, more)) → Peeked (by_next q) (c ∷ cs) a rest
     by_piece [] whole again = record { piece = []; whole = whole; again = λ more same. at_head more (rw whole same) (again more same) }
-    by_piece (d ∷ ds) whole again = record { piece = d ∷ ds; whole = whole;
-        again = λ more same. let head : c ≡ d = cc in next_again q c (ds ++ more) (d ∷ (ds ++ more)) a more (ap (λ x. x ∷ (ds ++ more)) (sym head)) (again more same) }
+    by_piece (d ∷ ds) whole again = record {
+      piece = d ∷ ds;
+      whole = whole;
+      again = λ more same. let head : c ≡ d = cc in next_again q c (ds ++ more) (d ∷ (ds ++ more)) a more (ap (λ x. x ∷ (ds ++ more)) (sym head)) (again more same);
+    }
 
 by_next_taken : {A : Type 0} (q : ℕ → Front A) → ((c : ℕ) → Ends (q c)) → (text : List ℕ) (a : A) (rest : List ℕ) → by_next q text ≡ Some (a, rest) → Ended (by_next q) text a rest
 unfolding by_next one
@@ -349,6 +364,8 @@ up_to_taken mark some (c ∷ cs) a rest e =
     ]
 
 pub up_to_ends : (mark : List ℕ) → 0 < length mark → Ends (up_to mark)
-up_to_ends mark some = record { taken = λ text a rest e.
-    let t = up_to_taken mark some text a rest e in
-    record { piece = t.piece; some = omega (arith, t.long); whole = t.whole; again = t.again } }
+up_to_ends mark some = record {
+  taken = λ text a rest e.
+      let t = up_to_taken mark some text a rest e in
+      record { piece = t.piece; some = omega (arith, t.long); whole = t.whole; again = t.again };
+}

@@ -1,10 +1,10 @@
 -- Each item is decided by its own characters.
-use Rattle.std.proofs.Common.{◌≡◌, ℕ, ◌<◌, Bool, true, false, List, [], ◌∷◌, length, Some, None, refl, arith}
-use Rattle.std.specs.Prelude.{codes, Option}
+use Rattle.std.proofs.Common.{ℕ, Bool, [], ◌∷◌, arith}
+use Rattle.std.specs.Prelude.{codes}
 use Rattle.xc_elements.specs.Characters.{is_name_char, is_space}
-use Rattle.xc_elements.specs.Fronts.{Front, followed_by, Turn, More, Last}
-use Rattle.xc_elements.specs.Items.{plain_name, qualified_name, referent, reference, equals, quote, line_end, value_turn_at, value_turn, value_until, attribute, tag_turn, tag_rest, tag, end_tag, is_inside, may_declare, part, part_turn, declaration, instruction_rest, behind_target, instruction, comment, section, comment_or_section, markup, letter, item}
-use Rattle.xc_elements.proofs.FrontLaws.{Freed, Peeks, Frees, Ends, peeks_from_frees, peeks_from_ends, frees_from_ends, peeks_then_peeks, peeks_then_ends, ends_then_frees, give_frees, give_peeks, refuse_frees, refuse_ends, refuse_peeks, give_some_frees, one_ends, past_ends, past_peeks, if_ends, if_peeks, if_frees, by_next_ends, by_next_peeks, exactly_frees, exactly_ends, run_peeks, up_to_ends}
+use Rattle.xc_elements.specs.Fronts.{More, Last}
+use Rattle.xc_elements.specs.Items.{plain_name, qualified_name, referent, reference, equals, quote, line_end, value_turn_at, value_turn, value_until, attribute, tag_turn, tag_rest, tag, end_tag, is_inside, may_declare, part, part_turn, declaration, instruction_rest, instruction, comment, section, comment_or_section, markup, letter, item}
+use Rattle.xc_elements.proofs.FrontLaws.{Peeks, Ends, peeks_from_frees, peeks_from_ends, frees_from_ends, peeks_then_peeks, peeks_then_ends, ends_then_frees, give_frees, give_peeks, refuse_frees, refuse_ends, refuse_peeks, give_some_frees, one_ends, past_ends, past_peeks, if_ends, if_peeks, if_frees, by_next_ends, by_next_peeks, exactly_frees, exactly_ends, run_peeks, up_to_ends}
 use Rattle.xc_elements.proofs.SequenceLaws.{Turns, turns_from_ends, sequence_ends, GoesOn, give_goes_on, refuse_goes_on, then_goes_on, if_goes_on, past_goes_on, by_next_goes_on, last_freed, turns_from_one}
 
 pub plain_name_peeks : Peeks plain_name

@@ -9,3 +9,4 @@ pub mod ReadLaws
 pub mod StepLaws
 pub mod LoopLaws
 pub mod CutLaws
+pub mod DocumentLaws

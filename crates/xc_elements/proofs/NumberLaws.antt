@@ -5,10 +5,7 @@ use Rattle.std.proofs.lemmas.Bool.Decides.{nat_tests}
 use Rattle.std.proofs.lemmas.Bool.{lt-ltb, le-ltb}
 use Rattle.std.proofs.Math.Nat.{mul-le-mul_left}
 use Rattle.xc_elements.specs.Characters.{is_character}
-use Rattle.xc_elements.specs.Fronts.{one}
 use Rattle.xc_elements.specs.Items.{character_from, character_numbered, is_nil}
-use Rattle.xc_elements.proofs.FrontLaws.{found}
-use Rattle.xc_elements.proofs.WordLaws.{text_of_one, nothing_of_one}
 
 pub beyond_characters : (n : ℕ) → 0x10FFFF < n → is_character n ≡ false
 unfolding is_character

@@ -2,8 +2,8 @@
 use Rattle.std.proofs.Common.{◌≡◌, ℕ, zero, suc, ◌+◌, ◌<◌, ◌≤◌, Bool, true, false, cond, List, [], ◌∷◌, ◌++◌, length, Option, Some, None, refl, sym, ap, ◌∙◌, append_assoc, arith}
 use Rattle.std.specs.Prelude.{option_map}
 use Rattle.std.proofs.lemmas.List.{length-append}
-use Rattle.xc_elements.specs.Fronts.{Front, go_on, followed_by, give, refuse, one, by_next, past, Turn, More, Last, after_turn, repeated, sequence}
-use Rattle.xc_elements.proofs.FrontLaws.{found, same_answer, same_behind, split, mapped, Peeked, Freed, Ended, Peeks, Frees, Ends, peeks_from_ends, peeks_then_peeks, ends_shorter, one_ends, give_frees}
+use Rattle.xc_elements.specs.Fronts.{Front, go_on, followed_by, give, refuse, one, by_next, past, Turn, More, Last, repeated, sequence}
+use Rattle.xc_elements.proofs.FrontLaws.{found, same_answer, same_behind, split, mapped, Peeked, Freed, Ended, Peeks, Ends, peeks_from_ends, peeks_then_peeks, ends_shorter, one_ends, give_frees}
 
 -- what a turn takes: a character at least, and the last turn ends
 pub record Turns {A B : Type 0} (turn : Front (Turn A B)) : Type 0 where
@@ -100,9 +100,11 @@ module _ {A B : Type 0} (turn : Front (Turn A B)) (turns : Turns turn) where
 
   pub sequence_ends : Ends (sequence turn)
   unfolding sequence
-  sequence_ends = record { taken = λ text x rest e.
-      let t = repeated_taken (length text) text x rest e in
-      record { piece = t.piece; some = t.some; whole = t.whole; again = λ more. t.again (length (t.piece ++ more)) more (omega (arith, length-append t.piece more)) } }
+  sequence_ends = record {
+    taken = λ text x rest e.
+        let t = repeated_taken (length text) text x rest e in
+        record { piece = t.piece; some = t.some; whole = t.whole; again = λ more. t.again (length (t.piece ++ more)) more (omega (arith, length-append t.piece more)) };
+  }
 
 -- ---- turns of which the last is known by its first character
 
@@ -149,22 +151,22 @@ last_freed false last h text x rest e = absurd (h.never text x rest e)
 pub turns_from_one : {A B : Type 0} (q : ℕ → Front (Turn A B)) → ((c : ℕ) → Peeks (q c)) → ((c : ℕ) (text : List ℕ) (b : B) (rest : List ℕ) → q c text ≡ Some (Last b, rest) → Freed (q c) text (Last b) rest) → Turns (followed_by one q)
 unfolding followed_by
 turns_from_one q peeks lasts = record {
-    some = λ text a rest e.
-        let s = split (one text) q (More a, rest) e in
-        let front = one_ends.taken text s.0.0 s.0.1 s.1 in
-        let t = (peeks s.0.0).taken s.0.1 (More a) rest s.2 in
-        let lens = ap length front.whole ∙ length-append front.piece s.0.1 in
-        let others = ap length t.whole ∙ length-append t.piece rest in
-        omega (arith, front.some, lens, others);
-    more = λ text a rest e. (peeks_then_peeks (peeks_from_ends one_ends) peeks).taken text (More a) rest e;
-    last = λ text b rest e.
-        let s = split (one text) q (Last b, rest) e in
-        let front = one_ends.taken text s.0.0 s.0.1 s.1 in
-        let t = lasts s.0.0 s.0.1 b rest s.2 in
-        record {
-          piece = front.piece ++ t.piece;
-          some = omega (arith, length-append front.piece t.piece, front.some);
-          whole = front.whole ∙ ap (λ (r : List ℕ). front.piece ++ r) t.whole ∙ sym (append_assoc front.piece t.piece rest);
-          again = λ more. rw (append_assoc front.piece t.piece more, front.again (t.piece ++ more)) (t.again more);
-        };
-  }
+  some = λ text a rest e.
+      let s = split (one text) q (More a, rest) e in
+      let front = one_ends.taken text s.0.0 s.0.1 s.1 in
+      let t = (peeks s.0.0).taken s.0.1 (More a) rest s.2 in
+      let lens = ap length front.whole ∙ length-append front.piece s.0.1 in
+      let others = ap length t.whole ∙ length-append t.piece rest in
+      omega (arith, front.some, lens, others);
+  more = λ text a rest e. (peeks_then_peeks (peeks_from_ends one_ends) peeks).taken text (More a) rest e;
+  last = λ text b rest e.
+      let s = split (one text) q (Last b, rest) e in
+      let front = one_ends.taken text s.0.0 s.0.1 s.1 in
+      let t = lasts s.0.0 s.0.1 b rest s.2 in
+      record {
+        piece = front.piece ++ t.piece;
+        some = omega (arith, length-append front.piece t.piece, front.some);
+        whole = front.whole ∙ ap (λ (r : List ℕ). front.piece ++ r) t.whole ∙ sym (append_assoc front.piece t.piece rest);
+        again = λ more. rw (append_assoc front.piece t.piece more, front.again (t.piece ++ more)) (t.again more);
+      };
+}

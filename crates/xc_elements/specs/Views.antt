@@ -11,7 +11,6 @@ use Rattle.xc_elements.specs.declared.attributes.WrittenValue.{WrittenValue}
 use Rattle.xc_elements.specs.declared.items.Item.{Item}
 use Rattle.xc_elements.specs.declared.items.Item.TheVariants as items
 use Rattle.xc_elements.specs.declared.names.QualifiedName.{QualifiedName}
-use Rattle.xc_elements.specs.declared.tags.Tag.{Tag}
 use Rattle.xc_elements.specs.declared.tags.TagPart.{TagPart}
 use Rattle.xc_elements.specs.declared.tags.TagPart.TheVariants as parts
 use Rattle.xc_elements.specs.declared.texts.Class.{Class}

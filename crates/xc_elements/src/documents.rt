@@ -2,11 +2,12 @@
 ghost use Rattle.std.specs.Prelude.{◌≡◌, ◌++◌, ◌+◌, ℕ, List, MatchOption, IfOk, IfErr, length};
 ghost use Rattle.std.specs.Str.{chars, IsUtf8};
 ghost use Rattle.std.specs.Str.Lossy.{utf8_valid_len};
-ghost use Rattle.xc_elements.specs.Documents.{begins_doctype, without_mark, fault_at, IsMadeOfItems, IsFault};
+ghost use Rattle.xc_elements.specs.Items.{begins_doctype};
+ghost use Rattle.xc_elements.specs.Documents.{without_mark, fault_at, IsMadeOfItems, IsFault};
 
 use crate::fault::ItemFault;
 use crate::items::item_at;
-use crate::texts::{exactly, next_char};
+use crate::texts::{exactly, is_nothing, next_char};
 
 /// The text of a document, without a byte order mark at its start.
 pub fn text_of(bytes: &[u8]) -> Result<&str, ItemFault>
@@ -26,13 +27,7 @@ fn behind_mark(text: &str) -> &str
     ensures end { (mark : List ℕ) × (text.now ≡ mark ++ result.now) }
 {
     match next_char(text) {
-        Some((c, rest)) => {
-            if c == '\u{FEFF}' {
-                rest
-            } else {
-                text
-            }
-        }
+        Some((c, rest)) => { if c == '\u{FEFF}' { rest } else { text } }
         None => text,
     }
 }
@@ -64,7 +59,7 @@ pub fn item_fault(bytes: &[u8]) -> Option<ItemFault>
     };
     let mut rest = text;
     let mut is_first = true;
-    while !rest.is_empty() {
+    while !is_nothing(rest) {
         match item_at(rest, is_first) {
             Some((_, after)) => {
                 rest = after;

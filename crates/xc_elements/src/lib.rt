@@ -11,6 +11,8 @@ pub mod laws;
 mod names;
 mod references;
 mod tags;
+#[cfg(test)]
+mod tests;
 mod texts;
 
 pub use attributes::{WrittenAttribute, WrittenValue};
@@ -18,4 +20,4 @@ pub use documents::{fault_at, item_fault, text_of};
 pub use fault::ItemFault;
 pub use items::{Item, item_at};
 pub use names::QualifiedName;
-pub use tags::{Tag, TagPart};
+pub use tags::{Tag, TagPart, tag_part};

@@ -57,7 +57,11 @@ fn behind_hash(text: &str) -> Option<char>
     ensures { result ≡ character_by_mark (one (chars text.now)) (chars text.now) }
 {
     match next_char(text) {
-        Some((c, digits)) => if c == 'x' { character_numbered(16, digits) } else { character_numbered(10, text) },
+        Some((c, digits)) => if c == 'x' {
+            character_numbered(16, digits)
+        } else {
+            character_numbered(10, text)
+        },
         None => None,
     }
 }

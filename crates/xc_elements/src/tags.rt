@@ -28,7 +28,7 @@ pub enum TagPart<'a> {
 
 /// What stands next behind a tag's name, and the text behind it.
 #[tactic(auto, unfolding(crate::specs::Fronts::followed_by, crate::specs::Fronts::give, crate::specs::Fronts::refuse, crate::specs::Fronts::by_next, crate::specs::Items::tag_turn))]
-pub(crate) fn tag_turn(text: &str) -> Option<(TagPart<'_>, &str)>
+pub fn tag_part(text: &str) -> Option<(TagPart<'_>, &str)>
     ensures { option_map (at_front tag_part_view) result ≡ tag_turn (chars text.now) }
 {
     let Some((spaces, rest)) = run(text, Class::Space) else {
@@ -59,7 +59,7 @@ fn tag_end(text: &str) -> Option<(bool, &str)>
     ensures { option_map (at_front (λ is_empty. is_empty)) result ≡ option_map ending (tag_rest (chars text.now)) }
 {
     let mut rest = text;
-    while let Some((part, after)) = tag_turn(rest) {
+    while let Some((part, after)) = tag_part(rest) {
         match part {
             TagPart::Attribute(_) => rest = after,
             TagPart::End(is_empty) => return Some((is_empty, after)),

@@ -14,19 +14,21 @@ loop-is_last-init c = (search rules, leads_none part_turn (chars c.args.text.now
 pub returns-then-is_last : goal.returns-then-is_last
 returns-then-is_last c =
     leads_last part_turn (chars c.args.text.now) (chars c.loop-is_last.rest.now) (chars c.in-Some.after.now) _ (turns_from_ends part_turn_ends)
-        (sym (ap (λ t. found (part_turn_view t) (chars c.in-Some.after.now)) c.if-is_last.true) ∙ c.in-Some.ensures)
-        c.loop-is_last.invariant.1
+    (sym (ap (λ t. found (part_turn_view t) (chars c.in-Some.after.now)) c.if-is_last.true) ∙ c.in-Some.ensures)
+    c.loop-is_last.invariant.1
 
 pub loop-is_last-smaller : goal.loop-is_last-smaller
 loop-is_last-smaller c =
     more_shorter part_turn (chars c.loop-is_last.rest.now) (chars c.in-Some.after.now) _ (turns_from_ends part_turn_ends)
-        (sym (ap (λ t. found (part_turn_view t) (chars c.in-Some.after.now)) c.if-is_last.false) ∙ c.in-Some.ensures)
+    (sym (ap (λ t. found (part_turn_view t) (chars c.in-Some.after.now)) c.if-is_last.false) ∙ c.in-Some.ensures)
 
 pub loop-is_last-preserved : goal.loop-is_last-preserved
-loop-is_last-preserved c =
-    (search rules, leads_more part_turn (chars c.args.text.now) (chars c.loop-is_last.rest.now) (chars c.in-Some.after.now) _ (turns_from_ends part_turn_ends)
-        (sym (ap (λ t. found (part_turn_view t) (chars c.in-Some.after.now)) c.if-is_last.false) ∙ c.in-Some.ensures)
-        c.loop-is_last.invariant.1)
+loop-is_last-preserved c = (
+  search rules,
+  leads_more part_turn (chars c.args.text.now) (chars c.loop-is_last.rest.now) (chars c.in-Some.after.now) _ (turns_from_ends part_turn_ends)
+      (sym (ap (λ t. found (part_turn_view t) (chars c.in-Some.after.now)) c.if-is_last.false) ∙ c.in-Some.ensures)
+      c.loop-is_last.invariant.1,
+)
 
 pub returns : goal.returns
 returns c = leads_nowhere part_turn (chars c.args.text.now) (chars c.loop-is_last.rest.now) c.in_default.ensures c.loop-is_last.invariant.1

@@ -17,15 +17,17 @@ pub returns-then-number-gt1114111 : goal.returns-then-number-gt1114111
 returns-then-number-gt1114111 c =
     let digit = c.in-Some-to_digit.ensures.value in
     sym (one_more_digit c.args.base c.loop-c.number c.in-Some.c c.in-Some-to_digit.digit _ _ (text_of_one _ _ _ c.in-Some.ensures.value) digit.0 digit.1
-        ∙ beyond c.args.base _ _ c.if-number-gt1114111.true (omega arith))
+    ∙ beyond c.args.base _ _ c.if-number-gt1114111.true (omega arith))
     ∙ c.loop-c.invariant.2
 
 pub loop-c-preserved : goal.loop-c-preserved
 loop-c-preserved c =
-    let digit = c.in-Some-to_digit.ensures.value in
-    (search rules, omega arith,
-        sym (one_more_digit c.args.base c.loop-c.number c.in-Some.c c.in-Some-to_digit.digit _ _ (text_of_one _ _ _ c.in-Some.ensures.value) digit.0 digit.1)
-        ∙ c.loop-c.invariant.2)
+    let digit = c.in-Some-to_digit.ensures.value in (
+      search rules,
+      omega arith,
+      sym (one_more_digit c.args.base c.loop-c.number c.in-Some.c c.in-Some-to_digit.digit _ _ (text_of_one _ _ _ c.in-Some.ensures.value) digit.0 digit.1)
+          ∙ c.loop-c.invariant.2,
+    )
 
 pub returns : goal.returns
 returns c = c.numbered.ensures ∙ sym (from_end c.args.base c.loop-c.number _ (nothing_of_one _ c.in_default.ensures.value)) ∙ c.loop-c.invariant.2

@@ -14,8 +14,11 @@ returns-in-None c =
     ∙ c.loop-wanted.invariant.1
 
 pub loop-wanted-preserved : goal.loop-wanted-preserved
-loop-wanted-preserved c = (search rules, exactly_more c.args.word.now (chars c.loop-wanted.rest.now) (chars c.in-Some.after.now) c.loop-wanted.wanted-index c.wanted-item.result c.in-Some.c c.loop-wanted-test.true c.wanted-item.is (text_of_one _ _ _ c.in-Some.ensures.value) c.if-c-wanted.false
-    ∙ c.loop-wanted.invariant.1)
+loop-wanted-preserved c = (
+  search rules,
+  exactly_more c.args.word.now (chars c.loop-wanted.rest.now) (chars c.in-Some.after.now) c.loop-wanted.wanted-index c.wanted-item.result c.in-Some.c c.loop-wanted-test.true c.wanted-item.is (text_of_one _ _ _ c.in-Some.ensures.value) c.if-c-wanted.false
+      ∙ c.loop-wanted.invariant.1,
+)
 
 pub returns : goal.returns
 returns c = exactly_all c.args.word.now (chars c.loop-wanted.rest.now) c.loop-wanted.wanted-index c.loop-wanted-test.false ∙ c.loop-wanted.invariant.1

@@ -1,4 +1,4 @@
-use Rattle.std.proofs.Common.{◌≡◌, sym, ap, ◌∙◌, ◌++◌, List, ℕ, length}
+use Rattle.std.proofs.Common.{sym, ap, ◌∙◌, ◌++◌, List, ℕ, length}
 use Rattle.std.specs.Prelude.{encode_utf8}
 use Rattle.xc_elements.proofs.TextLaws.{one_of_text, none_of_text}
 use Rattle.xc_elements.proofs.texts.next_char.Goals as goal

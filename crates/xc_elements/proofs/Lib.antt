@@ -10,3 +10,4 @@ pub mod StepLaws
 pub mod LoopLaws
 pub mod CutLaws
 pub mod DocumentLaws
+pub mod GatherLaws

@@ -32,9 +32,9 @@ passed_more p text rest after c t e step = record {
   left = t.left ∙ ap (λ o. option_map (put_all t.front) o) step ∙ put_one_more t.front c (p after);
 }
 
-pub append-nil : (xs : List ℕ) → xs ++ [] ≡ xs
+pub append-nil : {A : Type 0} (xs : List A) → xs ++ [] ≡ xs
 append-nil [] = refl
-append-nil (x ∷ xs) = ap (λ (r : List ℕ). x ∷ r) (append-nil xs)
+append-nil (x ∷ xs) = ap (λ r. x ∷ r) (append-nil xs)
 
 pub passed_all : (p : Front (List ℕ)) (text rest part end : List ℕ) (t : Passed p text rest) → ((front : List ℕ) → text ≡ front ++ rest → part ≡ front) → p rest ≡ Some ([], end) → found part end ≡ p text
 passed_all p text rest part end t is e =

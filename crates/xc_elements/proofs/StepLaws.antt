@@ -1,6 +1,6 @@
 -- What a front finds where its first character is known.
 use Rattle.std.proofs.Common.{◌≡◌, ℕ, Bool, true, List, [], Option, Some, None, refl, sym, ap, ◌∙◌}
-use Rattle.std.specs.Prelude.{option_map}
+use Rattle.std.specs.Prelude.{IsSome, option_map}
 use Rattle.std.specs.Option.{option_map_or}
 use Rattle.xc_elements.specs.Characters.{is_name_start, is_name_char}
 use Rattle.xc_elements.specs.Fronts.{go_on, followed_by, give, one, by_next, run, sequence, ending}
@@ -21,6 +21,9 @@ value_found mark text rest (Some x) e = let same = same_answer tt x.0.1 rest x.1
 pub value_ended : (mark : ℕ) (text rest : List ℕ) → found tt rest ≡ option_map ending (sequence (value_turn mark) text) → value_until mark text ≡ Some (value_at mark text, rest)
 unfolding value_until followed_by
 value_ended mark text rest e = value_found mark text rest (sequence (value_turn mark) text) e
+
+pub value_readable : (mark : ℕ) (text rest : List ℕ) → found tt rest ≡ option_map ending (sequence (value_turn mark) text) → IsSome (value_until mark text)
+value_readable mark text rest e = rw (value_ended mark text rest e) refl
 
 value_lost : (o : Option ((List ℕ × Unit {0}) × List ℕ)) → None ≡ option_map ending o → go_on o (λ x. give x.0) ≡ None
 unfolding give

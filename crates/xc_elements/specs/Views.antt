@@ -1,5 +1,5 @@
 -- What the parts of a document that the program lends stand for.
-use Rattle.std.specs.Prelude.{ℕ, List, [], Bool, true, false, Option, Some, None}
+use Rattle.std.specs.Prelude.{ℕ, List, [], Bool, true, false, Option, Some, None, IsSome}
 use Rattle.std.specs.Option.{option_map_or}
 use Rattle.std.specs.Borrow.{Bor}
 use Rattle.std.specs.Str.{chars}
@@ -44,6 +44,10 @@ value_at mark text = option_map_or (λ x. x.0) (value_until mark text) []
 abbrev pub value_view : WrittenValue → List ℕ
 value_view value = value_at value.mark (lent value.text)
 
+-- the text has a value at its front
+abbrev pub IsReadable : WrittenValue → Type 0
+IsReadable value = IsSome (value_until value.mark (lent value.text))
+
 abbrev pub attribute_view : WrittenAttribute → Pair
 attribute_view attribute = record { name = name_view attribute.name; value = value_view attribute.value }
 
@@ -59,6 +63,11 @@ attributes_at text = option_map_or (λ x. x.0.0) (tag_rest text) []
 abbrev pub tag_part_view : TagPart → Turn Pair Bool
 tag_part_view (parts.Attribute attribute) = More (attribute_view attribute)
 tag_part_view (parts.End is_empty) = Last is_empty
+
+-- the attribute's text has a value at its front
+abbrev pub IsReadablePart : TagPart → Type 0
+IsReadablePart (parts.Attribute attribute) = IsReadable attribute.value
+IsReadablePart (parts.End is_empty) = Unit {0}
 
 -- a part of a declaration, or its end
 abbrev pub part_turn_view : Bool → Turn Unit Unit

@@ -1,14 +1,16 @@
 // Attributes as they are written.
-ghost use Rattle.std.specs.Prelude.{◌≡◌, option_map};
+ghost use Rattle.std.specs.Prelude.{◌≡◌, IfOk, IfSome, encode_utf8_all, option_map};
 ghost use Rattle.std.specs.Str.{chars};
 ghost use Rattle.xc_elements.specs.Fronts.{sequence, ending};
 ghost use Rattle.xc_elements.specs.Items.{equals, quote, line_end, value_turn, attribute};
-ghost use Rattle.xc_elements.specs.Views.{at_front, behind, value_turn_view, attribute_view};
+ghost use Rattle.xc_elements.specs.Views.{at_front, behind, value_turn_view, value_view, attribute_view, IsReadable};
 
 use crate::characters::is_character;
 use crate::names::{QualifiedName, qualified_name};
 use crate::references::reference;
 use crate::texts::{Class, exactly, next_char, run};
+use std::alloc::{AllocError, Global};
+use xc_frac::Text;
 
 /// The value of an attribute as it is written.
 #[derive(Clone, Copy, Debug, PartialEq, Eq)]
@@ -19,6 +21,26 @@ pub struct WrittenValue<'a> {
     pub text: &'a str,
 }
 
+impl<'a> WrittenValue<'a> {
+    /// The value, with the character of each reference, and a space for each end of a line and each tab that are written as
+    /// characters.
+    pub fn decoded(&self, alloc: Global) -> Result<Text, AllocError>
+        requires { IsReadable self.now }
+        ensures { IfOk result (λ text. text ≡ encode_utf8_all (value_view self.now)) }
+    {
+        let mut value = String::new(alloc);
+        let mut rest = self.text;
+        while let Some((turn, after)) = value_turn(rest, self.mark) {
+            match turn {
+                Some(c) => value.push(c)?,
+                None => return Ok(Text::of(value)),
+            }
+            rest = after;
+        }
+        Ok(Text::of(value))
+    }
+}
+
 /// An attribute as it is written.
 #[derive(Clone, Copy, Debug, PartialEq, Eq)]
 pub struct WrittenAttribute<'a> {
@@ -27,9 +49,10 @@ pub struct WrittenAttribute<'a> {
 }
 
 /// An attribute, and the text behind it.
-#[tactic(auto, using(crate::proofs::StepLaws::value_ended, crate::proofs::StepLaws::value_endless), unfolding(crate::specs::Fronts::followed_by, crate::specs::Fronts::give, crate::specs::Fronts::refuse, crate::specs::Fronts::by_next, crate::specs::Items::attribute))]
+#[tactic(auto, using(crate::proofs::StepLaws::value_ended, crate::proofs::StepLaws::value_endless, crate::proofs::StepLaws::value_readable), unfolding(crate::specs::Fronts::followed_by, crate::specs::Fronts::give, crate::specs::Fronts::refuse, crate::specs::Fronts::by_next, crate::specs::Items::attribute))]
 pub(crate) fn attribute(text: &str) -> Option<(WrittenAttribute<'_>, &str)>
-    ensures { option_map (at_front attribute_view) result ≡ attribute (chars text.now) }
+    ensures value { option_map (at_front attribute_view) result ≡ attribute (chars text.now) }
+    ensures readable { IfSome result (λ x. IsReadable x.0.value) }
 {
     let Some((name, rest)) = qualified_name(text) else {
         return None;

@@ -1,9 +1,9 @@
 // Tags.
-ghost use Rattle.std.specs.Prelude.{◌≡◌, option_map};
+ghost use Rattle.std.specs.Prelude.{◌≡◌, IfSome, option_map};
 ghost use Rattle.std.specs.Str.{chars};
 ghost use Rattle.xc_elements.specs.Fronts.{ending};
 ghost use Rattle.xc_elements.specs.Items.{tag_turn, tag_rest, tag, end_tag};
-ghost use Rattle.xc_elements.specs.Views.{at_front, tag_part_view, item_view};
+ghost use Rattle.xc_elements.specs.Views.{at_front, tag_part_view, item_view, IsReadablePart};
 
 use crate::attributes::{WrittenAttribute, attribute};
 use crate::items::Item;
@@ -29,7 +29,8 @@ pub enum TagPart<'a> {
 /// What stands next behind a tag's name, and the text behind it.
 #[tactic(auto, unfolding(crate::specs::Fronts::followed_by, crate::specs::Fronts::give, crate::specs::Fronts::refuse, crate::specs::Fronts::by_next, crate::specs::Items::tag_turn))]
 pub fn tag_part(text: &str) -> Option<(TagPart<'_>, &str)>
-    ensures { option_map (at_front tag_part_view) result ≡ tag_turn (chars text.now) }
+    ensures value { option_map (at_front tag_part_view) result ≡ tag_turn (chars text.now) }
+    ensures readable { IfSome result (λ x. IsReadablePart x.0) }
 {
     let Some((spaces, rest)) = run(text, Class::Space) else {
         return None;

@@ -131,3 +131,20 @@ fn name_ranges(rt: HostRuntime) {
         assert_eq!(rt; is_name_char(c), stands);
     }
 }
+
+#[test]
+fn values(rt: HostRuntime) -> Result<(), Fail> {
+    for (written, value) in [
+        (" x='a\tb\r\nc\rd\ne'>", "a b c d e"),
+        (" x=\"&lt;&#65;&quot;'&#13;&#10;\"/>", "<A\"'\r\n"),
+        (" xmlns:p = ''>", ""),
+    ] {
+        if let Some((TagPart::Attribute(attribute), _)) = tag_part(written) {
+            let decoded = attribute.value.decoded(rt.alloc())?;
+            assert_eq!(rt; decoded.as_str(), value);
+        } else {
+            assert!(rt; false, "{written}");
+        }
+    }
+    Ok(())
+}

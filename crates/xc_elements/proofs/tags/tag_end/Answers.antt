@@ -15,22 +15,22 @@ pub returns-in-End : goal.returns-in-End
 unfolding tag_rest
 returns-in-End c =
     leads_last tag_turn (chars c.args.text.now) (chars c.loop-part.rest.now) (chars c.in-Some.after.now) _ (turns_from_ends tag_turn_ends)
-    (sym (ap (λ t. found (tag_part_view t) (chars c.in-Some.after.now)) c.in-End.is) ∙ c.in-Some.ensures)
+    (sym (ap (λ t. found (tag_part_view t) (chars c.in-Some.after.now)) c.in-End.is) ∙ c.in-Some.ensures.value)
     c.loop-part.invariant.1
 
 pub loop-part-smaller : goal.loop-part-smaller
 loop-part-smaller c =
     more_shorter tag_turn (chars c.loop-part.rest.now) (chars c.in-Some.after.now) _ (turns_from_ends tag_turn_ends)
-    (sym (ap (λ t. found (tag_part_view t) (chars c.in-Some.after.now)) c.in-Attribute.is) ∙ c.in-Some.ensures)
+    (sym (ap (λ t. found (tag_part_view t) (chars c.in-Some.after.now)) c.in-Attribute.is) ∙ c.in-Some.ensures.value)
 
 pub loop-part-preserved : goal.loop-part-preserved
 loop-part-preserved c = (
   search rules,
   leads_more tag_turn (chars c.args.text.now) (chars c.loop-part.rest.now) (chars c.in-Some.after.now) _ (turns_from_ends tag_turn_ends)
-      (sym (ap (λ t. found (tag_part_view t) (chars c.in-Some.after.now)) c.in-Attribute.is) ∙ c.in-Some.ensures)
+      (sym (ap (λ t. found (tag_part_view t) (chars c.in-Some.after.now)) c.in-Attribute.is) ∙ c.in-Some.ensures.value)
       c.loop-part.invariant.1,
 )
 
 pub returns : goal.returns
 unfolding tag_rest
-returns c = leads_nowhere tag_turn (chars c.args.text.now) (chars c.loop-part.rest.now) c.in_default.ensures c.loop-part.invariant.1
+returns c = leads_nowhere tag_turn (chars c.args.text.now) (chars c.loop-part.rest.now) c.in_default.ensures.value c.loop-part.invariant.1

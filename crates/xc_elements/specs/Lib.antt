@@ -1,0 +1,5 @@
+pub mod Characters
+pub mod Fronts
+pub mod Items
+pub mod Views
+pub mod Documents

@@ -1,4 +1,3 @@
-pub mod Characters
 pub mod Fronts
 pub mod Items
 pub mod Views

@@ -5,12 +5,12 @@ ghost use Rattle.xc_elements.specs.Fronts.{sequence, ending};
 ghost use Rattle.xc_elements.specs.Items.{equals, quote, line_end, value_turn, attribute};
 ghost use Rattle.xc_elements.specs.Views.{at_front, behind, value_turn_view, value_view, attribute_view, IsReadable};
 
-use crate::characters::is_character;
 use crate::names::{QualifiedName, qualified_name};
 use crate::references::reference;
 use crate::texts::{Class, exactly, next_char, run};
 use std::alloc::{AllocError, Global};
 use xc_frac::Text;
+use xc_frac::characters::is_character;
 
 /// The value of an attribute as it is written.
 #[derive(Clone, Copy, Debug, PartialEq, Eq)]

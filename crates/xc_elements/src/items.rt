@@ -4,12 +4,12 @@ ghost use Rattle.std.specs.Str.{chars};
 ghost use Rattle.xc_elements.specs.Items.{instruction_rest, behind_target, instruction, comment, section, comment_or_section, markup, letter, item};
 ghost use Rattle.xc_elements.specs.Views.{at_front, item_view};
 
-use crate::characters::{is_character, is_space};
 use crate::declarations::declaration;
 use crate::names::{QualifiedName, plain_name};
 use crate::references::reference;
 use crate::tags::{Tag, end_tag, tag_at};
 use crate::texts::{exactly, next_char, spells, spells_in_any_case, up_to};
+use xc_frac::characters::{is_character, is_space};
 
 /// An item of a document.
 #[derive(Clone, Copy, Debug, PartialEq, Eq)]

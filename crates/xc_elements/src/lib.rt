@@ -2,7 +2,6 @@
 #![tactic(auto)]
 
 mod attributes;
-pub mod characters;
 mod declarations;
 mod documents;
 mod fault;

@@ -1,6 +1,6 @@
 use super::*;
-use crate::characters::{is_name_char, is_name_start};
 use std::test::*;
+use xc_frac::characters::{is_name_char, is_name_start};
 
 #[test]
 fn faults(rt: HostRuntime) {

@@ -5,7 +5,7 @@ ghost use Rattle.xc_elements.specs.Fronts.{one, exactly, run, up_to};
 ghost use Rattle.xc_elements.specs.Items.{is_nil, spells, spells_in_any_case};
 ghost use Rattle.xc_elements.specs.Views.{lent, at_front, behind, is_in};
 
-use crate::characters::{is_character, is_name_char, is_space};
+use xc_frac::characters::{is_character, is_name_char, is_space};
 
 /// A class of characters that may stand in a row.
 #[derive(Clone, Copy)]

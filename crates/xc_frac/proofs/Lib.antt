@@ -2,6 +2,8 @@ pub mod Answered
 pub mod ClearedTerms
 pub mod Compared
 pub mod DeltaOrder
+pub mod FirstPlaces
 pub mod Inverses
 pub mod LowestTerms
 pub mod Orders
+pub mod WhiteSpace

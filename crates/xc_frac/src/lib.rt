@@ -1,9 +1,11 @@
-//! Exact 128-bit fractions, numbers with an infinitely small part, and the two small types by which
-//! contracts see texts and lists.
+//! Exact 128-bit fractions and numbers with an infinitely small part; and what serves all crates above: the
+//! types by which contracts see texts and lists, a list with an index, and the characters of XML 1.0.
 #![tactic(auto)]
 
+pub mod characters;
 mod delta;
 mod exact;
+mod firsts;
 mod frac;
 mod integers;
 mod items;
@@ -14,12 +16,15 @@ mod scalar_frac;
 #[cfg(test)]
 mod tests;
 mod text;
+mod white_space;
 mod wide;
 
 pub use delta::Delta;
 pub use exact::{Exact, Scalar};
+pub use firsts::Firsts;
 pub use frac::Frac;
 pub use items::Items;
 pub use memory::Memory;
 pub use text::Text;
+pub use white_space::trimmed;
 pub use wide::{Op, Wide};

@@ -5,7 +5,7 @@ use Rattle.std.specs.Ordering.{nat_cmp, is_eq, ordering_then}
 use Rattle.std.specs.declared.cmp.Ordering.{Ordering}
 use Rattle.std.proofs.lemmas.Bool.Decides.{nat_tests}
 use Rattle.xc_report.specs.Facts.{has_double, is_same_point}
-use Rattle.xc_report.specs.Firsts.{first_or_len}
+use Rattle.xc_frac.specs.Firsts.{first_or_len}
 use Rattle.xc_report.specs.Views.{point_of}
 use Rattle.xc_report.specs.declared.plain.PlainFact.{PlainFact}
 use Rattle.xc_report.specs.declared.points.Point as lent_point

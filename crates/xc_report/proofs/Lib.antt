@@ -1,6 +1,5 @@
 pub mod Json
 pub mod Members
-pub mod FirstPlaces
 pub mod Orders
 pub mod Doubles
 pub mod Conjunctions

@@ -13,7 +13,7 @@ use Rattle.xc_report.specs.Keys.{is_same_key}
 use Rattle.xc_report.specs.Views.{name_view, key_view}
 use Rattle.xc_report.specs.declared.names.Name as lent_name
 use Rattle.xc_report.specs.declared.keys.Key as lent_key
-use Rattle.xc_report.proofs.FirstPlaces.{position_from_congr}
+use Rattle.xc_frac.proofs.FirstPlaces.{position_from_congr}
 
 -- by URI, and then by local part
 abbrev pub name_cmp : lent_name.Name → lent_name.Name → Ordering

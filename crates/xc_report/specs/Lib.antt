@@ -5,5 +5,4 @@ pub mod Facts
 pub mod Plain
 pub mod Views
 pub mod Steps
-pub mod Firsts
 pub mod Laws

@@ -6,7 +6,6 @@
 #![tactic(auto)]
 
 mod facts;
-mod firsts;
 mod keys;
 pub mod laws;
 mod names;

@@ -7,11 +7,11 @@ ghost use Rattle.xc_report.specs.Steps.{NamesAnswer};
 ghost use Rattle.xc_report.specs.Views.{name_view};
 ghost use Rattle.xc_report.specs.declared.plain.PlainFault.{PlainFault};
 
-use crate::firsts::Firsts;
 use crate::names::{Name, expanded};
 use crate::plain::PlainFault;
 use serde_json::Value;
 use std::alloc::Global;
+use xc_frac::Firsts;
 
 /// The expanded names of the nodes; `NotYet` where one has none.
 pub fn read_names<'a>(

@@ -5,11 +5,10 @@ ghost use Rattle.xc_report.specs.Views.{key_view, named_view};
 ghost use Rattle.xc_report.specs.declared.plain.PlainFault.{PlainFault};
 
 use crate::facts::Named;
-use crate::firsts::Firsts;
 use crate::keys::Key;
 use crate::plain::{PlainFact, PlainFault};
 use std::alloc::Global;
-use xc_frac::Text;
+use xc_frac::{Firsts, Text};
 
 /// The facts, each with the place of the first fact that has its key.
 pub fn plain_facts<'a>(alloc: Global, named: &[Named<'a>]) -> Result<Vec<PlainFact>, PlainFault>

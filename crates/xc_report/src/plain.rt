@@ -6,14 +6,13 @@ ghost use Rattle.xc_report.specs.Plain.{Answers, plain_answer, parts_answer, fac
 ghost use Rattle.xc_report.specs.declared.plain.PlainFault.TheVariants.{Memory};
 
 use crate::facts::read_facts;
-use crate::firsts::Firsts;
 use crate::nodes::{node_places, read_names};
 use crate::numbers::plain_facts;
 use crate::parts::{facts_of, namespaces_of, read_json};
 use crate::points::first_double;
 use serde_json::{Map, Value};
 use std::alloc::{AllocError, AllocFailed, Global};
-use xc_frac::{Items, Text};
+use xc_frac::{Firsts, Items, Text};
 
 /// A fact of a named concept.
 #[derive(Debug, Drop)]
@@ -64,6 +63,14 @@ impl<T: Drop> From<AllocFailed<T>> for PlainFault {
     ghost from_gives = { λ _ e. e ≡ Memory };
 
     fn from(_: AllocFailed<T>) -> Self {
+        PlainFault::Memory
+    }
+}
+
+impl From<xc_frac::Memory> for PlainFault {
+    ghost from_gives = { λ _ e. e ≡ Memory };
+
+    fn from(_: xc_frac::Memory) -> Self {
         PlainFault::Memory
     }
 }

@@ -5,10 +5,9 @@ ghost use Rattle.xc_report.specs.Views.{point_of};
 ghost use Rattle.xc_report.specs.declared.plain.PlainFact.{PlainFact};
 ghost use Rattle.xc_report.specs.declared.plain.PlainFault.{PlainFault};
 
-use crate::firsts::Firsts;
 use crate::plain::{PlainFact, PlainFault};
 use std::alloc::Global;
-use xc_frac::Text;
+use xc_frac::{Firsts, Text};
 
 /// A data point: the place of a concept among the names, and the number of a key.
 #[derive(Clone, Copy, PartialEq, Eq, PartialOrd, Ord)]

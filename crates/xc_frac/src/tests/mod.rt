@@ -101,3 +101,30 @@ fn texts_and_lists(rt: HostRuntime) -> Result<(), Fail> {
     assert_eq!(rt; Memory::from(AllocError), Memory);
     Ok(())
 }
+
+#[test]
+fn white_space_around_texts(rt: HostRuntime) -> Result<(), Fail> {
+    let cases = [
+        ("", ""),
+        (" \t\r\n", ""),
+        (" a b\n", "a b"),
+        ("a", "a"),
+        ("\u{A0}ä \r", "\u{A0}ä"),
+        ("\u{C}a", "\u{C}a"),
+    ];
+    for (text, want) in cases {
+        assert_eq!(rt; trimmed(text), want, "{text:?}");
+    }
+    Ok(())
+}
+
+#[test]
+fn first_places(rt: HostRuntime) -> Result<(), Fail> {
+    let firsts = Firsts::of(rt.alloc(), [3u64, 5, 3, 7].to_vec(rt.alloc())?)?;
+    for (item, want) in [(3, Some(0)), (5, Some(1)), (7, Some(3)), (4, None)] {
+        assert_eq!(rt; firsts.first(&item), want);
+        assert_eq!(rt; firsts.first_or_len(&item), want.unwrap_or(4));
+    }
+    assert_eq!(rt; firsts.as_slice(), [3, 5, 3, 7].as_slice());
+    Ok(())
+}

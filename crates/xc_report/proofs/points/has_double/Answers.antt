@@ -1,5 +1,5 @@
 use Rattle.std.proofs.Common.{◌∙◌, sym, ap, nat_lt}
-use Rattle.xc_report.specs.Firsts.{first_or_len}
+use Rattle.xc_frac.specs.Firsts.{first_or_len}
 use Rattle.xc_report.specs.Views.{point_of}
 use Rattle.xc_report.proofs.Doubles.{has_double-first, point_cmp}
 use Rattle.xc_report.proofs.points.has_double.Goals as goal

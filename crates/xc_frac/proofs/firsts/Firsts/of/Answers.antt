@@ -1,7 +1,7 @@
 use Rattle.std.proofs.Common.{◌≡◌, ◌<◌, ◌+◌, ◌++◌, ◌∷◌, [], length, take, arith, ap, sym, ◌∙◌}
 use Rattle.std.proofs.lemmas.List.{take_more, length-take}
-use Rattle.xc_report.specs.Firsts.{first_equal}
-use Rattle.xc_report.proofs.firsts.Firsts.of.Goals as goal
+use Rattle.xc_frac.specs.Firsts.{first_equal}
+use Rattle.xc_frac.proofs.firsts.Firsts.of.Goals as goal
 
 pub loop-at-preserved : goal.loop-at-preserved
 loop-at-preserved g c =

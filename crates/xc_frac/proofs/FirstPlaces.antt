@@ -5,7 +5,7 @@ use Rattle.std.specs.Ordering.{is_eq, eq_by_cmp}
 use Rattle.std.specs.BTreeMap.{is_at}
 use Rattle.std.specs.Cmp.{IsTotalOrder, eq_by_cmp_equiv}
 use Rattle.std.specs.declared.cmp.Ordering.{Ordering}
-use Rattle.xc_report.specs.Firsts.{first_equal, first_or_len, IsIndex}
+use Rattle.xc_frac.specs.Firsts.{first_equal, first_or_len, IsIndex}
 
 -- a first place stays
 pub position_from-stays : {X : Type 0} (t : X → Bool) (n k : ℕ) (xs : List X) (x : X) → position_from t n xs ≡ Some k → position_from t n (xs ++ x ∷ []) ≡ Some k

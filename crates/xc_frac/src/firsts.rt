@@ -1,9 +1,8 @@
-ghost use Rattle.std.specs.Prelude.{◌≡◌, ◌++◌, ◌∷◌, [], List, length, IfOk, IfErr, OnOk};
+ghost use Rattle.std.specs.Prelude.{◌≡◌, ◌++◌, ◌∷◌, [], List, length, IfOk, OnOk};
 ghost use Rattle.std.specs.BTreeMap.{get};
-ghost use Rattle.xc_report.specs.Firsts.{IsIndex};
-ghost use Rattle.xc_report.specs.declared.plain.PlainFault.{PlainFault};
+ghost use Rattle.xc_frac.specs.Firsts.{IsIndex};
 
-use crate::plain::PlainFault;
+use crate::memory::Memory;
 use std::alloc::{AllocFailed, Global};
 use std::collections::BTreeMap;
 use std::marker::Model;
@@ -22,7 +21,7 @@ impl<K: Ord> Model for Firsts<K> {
     ghost use Rattle.std.specs.Prelude.{List};
     ghost use Rattle.std.specs.BTreeMap.{get};
     ghost use Rattle.std.specs.Coded.{coded_list};
-    ghost use Rattle.xc_report.specs.Firsts.{IsIndex};
+    ghost use Rattle.xc_frac.specs.Firsts.{IsIndex};
 
     ghost Value = { List K };
 
@@ -34,12 +33,11 @@ impl<K: Ord> Model for Firsts<K> {
 }
 
 impl<K: Ord + Copy> Firsts<K> {
-    ghost use Rattle.xc_report.specs.Firsts.{first_equal, first_or_len};
+    ghost use Rattle.xc_frac.specs.Firsts.{first_equal, first_or_len};
 
     /// The list of these items.
-    pub fn of(alloc: Global, items: Vec<K>) -> Result<Firsts<K>, PlainFault>
-        ensures ok { IfOk result (λ firsts. firsts ≡ items.items) }
-        ensures err { IfErr result (λ e. e ≡ PlainFault.Memory) }
+    pub fn of(alloc: Global, items: Vec<K>) -> Result<Firsts<K>, Memory>
+        ensures { IfOk result (λ firsts. firsts ≡ items.items) }
     {
         let mut places = BTreeMap::new(alloc);
         for (at, item) in items.iter().enumerate() {

@@ -1,7 +1,7 @@
 use Rattle.std.proofs.Common.{cond, Some, sym, ap, ◌∙◌}
 use Rattle.std.specs.BTreeMap.{get, is_at}
-use Rattle.xc_report.proofs.FirstPlaces.{index_stays, index_grows}
-use Rattle.xc_report.proofs.firsts.note_first.Goals as goal
+use Rattle.xc_frac.proofs.FirstPlaces.{index_stays, index_grows}
+use Rattle.xc_frac.proofs.firsts.note_first.Goals as goal
 
 pub returns-then-contains_key : goal.returns-then-contains_key
 returns-then-contains_key g c = λ items last index. index_stays g.met.K.Ord.total _ items _ index (sym c.contains_key.ensures ∙ c.if-contains_key.true)

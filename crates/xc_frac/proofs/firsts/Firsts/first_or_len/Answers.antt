@@ -1,7 +1,7 @@
 use Rattle.std.proofs.Common.{◌∙◌, ap, unwrap_or, length}
-use Rattle.xc_report.specs.Firsts.{first_equal}
-use Rattle.xc_report.proofs.FirstPlaces.{first_or_len-first}
-use Rattle.xc_report.proofs.firsts.Firsts.first_or_len.Goals as goal
+use Rattle.xc_frac.specs.Firsts.{first_equal}
+use Rattle.xc_frac.proofs.FirstPlaces.{first_or_len-first}
+use Rattle.xc_frac.proofs.firsts.Firsts.first_or_len.Goals as goal
 
 pub returns : goal.returns
 returns g c =

@@ -1,6 +1,6 @@
 //! The characters of XML 1.0.
 ghost use Rattle.std.specs.Prelude.{◌≡◌};
-ghost use Rattle.xc_elements.specs.Characters.{is_character, is_space, is_name_start, is_name_char};
+ghost use Rattle.xc_frac.specs.Characters.{is_character, is_space, is_name_start, is_name_char};
 
 /// Whether a document may have the character: `Char` of XML 1.0, section 2.2.
 #[tactic(auto, unfolding(crate::specs::Characters::is_character))]

@@ -261,6 +261,20 @@ fn write_faults_are_told(rt: HostRuntime) -> Result<(), Fail> {
     Ok(())
 }
 
+// A sink that would fail a second put: a run that wrote its text in two puts would end as a write fault here, and one that
+// put it twice would write more.
+#[test]
+fn text_is_put_once(rt: HostRuntime) -> Result<(), Fail> {
+    let alloc = rt.alloc();
+    let report = report_of(alloc, "a 100 A 2024;t 100 T 2024;")?;
+    let mut shelf = shelf_of(alloc, report.as_bytes().to_vec(alloc)?, Vec::new(alloc))?;
+    let mut out = MemorySink::new(alloc, 1000, vec![in alloc; 1]?)?;
+    let ended = run(alloc, &words_of(alloc, SUM)?, &mut shelf, &mut out);
+    assert_eq!(rt; ended, Status::Sound);
+    assert_eq!(rt; out.bytes(), b"bindings 1 points 2\nbinding 0 consistent sum t\n".as_slice());
+    Ok(())
+}
+
 // A file one byte over the greatest size.
 #[test]
 fn long_files_are_refused(rt: HostRuntime) -> Result<(), Fail> {

@@ -1,39 +1,13 @@
 -- The first places in a list that grows by an item.
-use Rattle.std.proofs.Common.{◌≡◌, ◌+◌, ℕ, List, [], ◌∷◌, ◌++◌, Bool, true, false, Option, Some, None, length, cond, refl, sym, ap, ◌∙◌, arith, add-zero, zero-add, true≢false, is_some, not, unwrap_or}
+use Rattle.std.proofs.Common.{◌≡◌, ◌+◌, ◌<◌, arith, take, drop, get_or, ℕ, List, [], ◌∷◌, ◌++◌, Bool, true, false, Option, Some, None, length, cond, refl, sym, ap, ◌∙◌, zero-add, true≢false, is_some, unwrap_or}
+use Rattle.std.proofs.lemmas.List.{drop_more, length-take-le, take-append-drop}
 use Rattle.std.specs.List.{position_from, position_or_len}
 use Rattle.std.specs.Ordering.{is_eq, eq_by_cmp}
 use Rattle.std.specs.BTreeMap.{is_at}
 use Rattle.std.specs.Cmp.{IsTotalOrder, eq_by_cmp_equiv}
 use Rattle.std.specs.declared.cmp.Ordering.{Ordering}
+use Rattle.xc_model.proofs.Positions.{position_from-stays, position_from-push, position_from_congr, position_or_len-before, place_or_len}
 use Rattle.xc_frac.specs.Firsts.{first_equal, first_or_len, IsIndex}
-
--- a first place stays
-pub position_from-stays : {X : Type 0} (t : X → Bool) (n k : ℕ) (xs : List X) (x : X) → position_from t n xs ≡ Some k → position_from t n (xs ++ x ∷ []) ≡ Some k
-position_from-stays t n k [] x e = absurd (cc)
-position_from-stays t n k (y ∷ ys) x e = elim (t y) as (λ b. cond b (Some n) (position_from t (n + 1) ys) ≡ Some k → cond b (Some n) (position_from t (n + 1) (ys ++ x ∷ [])) ≡ Some k) [ true ↦ λ h. h | false ↦ λ h. position_from-stays t (n + 1) k ys x h ] e
-
--- where there is none yet, a new last item may be the first
-pub position_from-push : {X : Type 0} (t : X → Bool) (n : ℕ) (xs : List X) (x : X) → position_from t n xs ≡ None → position_from t n (xs ++ x ∷ []) ≡ cond (t x) (Some (n + length xs)) None
-position_from-push t n [] x e = rw (add-zero n) refl
-position_from-push t n (y ∷ ys) x e = elim (t y) as (λ b. cond b (Some n) (position_from t (n + 1) ys) ≡ None → cond b (Some n) (position_from t (n + 1) (ys ++ x ∷ [])) ≡ cond (t x) (Some (n + length (y ∷ ys))) None) [
-  | true ↦ λ h. absurd (cc)
-  | false ↦ λ h. let same : n + 1 + length ys ≡ n + length (y ∷ ys) = omega arith in rw (← same) (position_from-push t (n + 1) ys x h)
-] e
-
--- tests that agree find one place
-pub position_from_congr : {X : Type 0} (t u : X → Bool) (n : ℕ) (xs : List X) → ((x : X) → t x ≡ u x) → position_from t n xs ≡ position_from u n xs
-position_from_congr t u n xs same = ap (λ v. position_from v n xs) (λ i x. same x i)
-
--- the place of the first, or how many there are
-place_or_len : {X : Type 0} (t : X → Bool) (n : ℕ) (xs : List X) → unwrap_or (position_from t n xs) (n + length xs) ≡ n + position_or_len t xs
-place_or_len t n [] = refl
-place_or_len t n (x ∷ xs) = elim (t x) as (λ b. unwrap_or (cond b (Some n) (position_from t (n + 1) xs)) (n + length (x ∷ xs)) ≡ n + cond (not b) (1 + position_or_len t xs) 0) [
-  | true ↦ sym (add-zero n)
-  | false ↦
-      let longer : n + length (x ∷ xs) ≡ n + 1 + length xs = omega arith in
-      let further : n + 1 + position_or_len t xs ≡ n + (1 + position_or_len t xs) = omega arith in
-      ap (λ m. unwrap_or (position_from t (n + 1) xs) m) longer ∙ place_or_len t (n + 1) xs ∙ further
-]
 
 -- a first place, or else the length
 pub first_or_len-first : {K : Type 0} (cmp : K → K → Ordering) (item : K) (items : List K) → unwrap_or (first_equal cmp item items) (length items) ≡ first_or_len cmp item items
@@ -67,3 +41,14 @@ module _ {K : Type 0} {cmp : K → K → Ordering} (order : IsTotalOrder cmp) wh
       ∙ ap (λ b. cond b (Some (length items)) (look q)) ((eq_by_cmp_equiv order).symm item q)
       ∙ ap (λ o. cond (is_eq (cmp q item)) (Some (length items)) o) (index q)
       ∙ sym (grown items item q _ _ (sym (ap is_some (index item)) ∙ none) refl refl)
+
+  -- the first place of an item by those before it
+  pub first_by_earlier : (items : List K) (at : ℕ) (item : K) → at < length items → item ≡ get_or items at item → unwrap_or (first_equal cmp item (take at items)) at ≡ first_or_len cmp item items
+  first_by_earlier items at item within is =
+      let t : K → Bool = λ other. is_eq (cmp item other) in
+      let whole : take at items ++ item ∷ drop (at + 1) items ≡ items = ap (λ x. take at items ++ x ∷ drop (at + 1) items) is ∙ ap (λ rest. take at items ++ rest) (sym (drop_more items at item within)) ∙ take-append-drop at items in
+      let here : length (take at items) ≡ at = length-take-le at items (omega arith) in
+      ap (λ n. unwrap_or (first_equal cmp item (take at items)) n) (sym here)
+      ∙ first_or_len-first cmp item (take at items)
+      ∙ sym (position_or_len-before t (take at items) item (drop (at + 1) items) ((eq_by_cmp_equiv order).refl item))
+      ∙ ap (λ items. first_or_len cmp item items) whole

@@ -1,4 +1,4 @@
-ghost use Rattle.std.specs.Prelude.{◌≡◌, ◌++◌, ◌∷◌, [], List, length, IfOk, OnOk};
+ghost use Rattle.std.specs.Prelude.{◌≡◌, ◌++◌, ◌∷◌, [], List, length, unwrap_or, IfOk, OnOk};
 ghost use Rattle.std.specs.BTreeMap.{get};
 ghost use Rattle.xc_frac.specs.Firsts.{IsIndex};
 
@@ -10,18 +10,19 @@ use std::marker::Model;
 /// A list that finds the first of its items equal to a given one without going through them.
 ///
 /// It keeps an ordered map, so a look-up takes time in the logarithm of its length, whatever a
-/// report holds.
+/// report holds; and for each of its own items the place that was found when it was made.
 #[derive(Drop)]
 pub struct Firsts<K: Ord> {
     items: Vec<K>,
     places: BTreeMap<K, u64>,
+    firsts: Vec<u64>,
 }
 
 impl<K: Ord> Model for Firsts<K> {
-    ghost use Rattle.std.specs.Prelude.{List};
+    ghost use Rattle.std.specs.Prelude.{◌≡◌, List};
     ghost use Rattle.std.specs.BTreeMap.{get};
     ghost use Rattle.std.specs.Coded.{coded_list};
-    ghost use Rattle.xc_frac.specs.Firsts.{IsIndex};
+    ghost use Rattle.xc_frac.specs.Firsts.{IsIndex, first_places};
 
     ghost Value = { List K };
 
@@ -29,21 +30,34 @@ impl<K: Ord> Model for Firsts<K> {
 
     ghost view = { λ f. f.items.items };
 
-    ghost invariant = { λ f. IsIndex K.cmp (get K.cmp f.places) f.items.items };
+    ghost invariant = { λ f. IsIndex K.cmp (get K.cmp f.places) f.items.items
+        × (f.firsts.items ≡ first_places K.cmp f.items.items) };
 }
 
 impl<K: Ord + Copy> Firsts<K> {
-    ghost use Rattle.xc_frac.specs.Firsts.{first_equal, first_or_len};
+    ghost use Rattle.xc_frac.specs.Firsts.{first_equal, first_or_len, first_places};
 
     /// The list of these items.
     pub fn of(alloc: Global, items: Vec<K>) -> Result<Firsts<K>, Memory>
         ensures { IfOk result (λ firsts. firsts ≡ items.items) }
     {
         let mut places = BTreeMap::new(alloc);
+        let mut firsts = Vec::new(alloc);
         for (at, item) in items.iter().enumerate() {
-            note_first(&mut places, item, at as u64)?;
+            firsts.push(note_first(&mut places, item, at as u64)?)?;
         }
-        Ok(Firsts { items, places })
+        Ok(Firsts {
+            items,
+            places,
+            firsts,
+        })
+    }
+
+    /// For each item, the place of the first that is equal to it.
+    pub fn firsts(&self) -> &[u64]
+        ensures { result.now ≡ first_places K.cmp self.now }
+    {
+        self.firsts.as_slice()
     }
 
     /// The place of the first item that is equal to this one.
@@ -68,19 +82,20 @@ impl<K: Ord + Copy> Firsts<K> {
     }
 }
 
-// Notes the place of an item where no item before it is equal to it.
+// The place of the first item that is equal to this one: it is noted where no item before it is.
 fn note_first<K: Ord + Copy>(
     places: &mut BTreeMap<K, u64>,
     item: &K,
     place: u64,
-) -> Result<(), AllocFailed<(K, u64)>>
-    ensures { OnOk result ((items : List K) → place ≡ length items
+) -> Result<u64, AllocFailed<(K, u64)>>
+    ensures index { OnOk result ((items : List K) → place ≡ length items
         → IsIndex K.cmp (get K.cmp places.old) items
         → IsIndex K.cmp (get K.cmp places.new) (items ++ item.now ∷ [])) }
+    ensures first { IfOk result (λ first. first ≡ unwrap_or (get K.cmp places.old item.now) place) }
 {
-    if places.contains_key(item) {
-        return Ok(());
+    if let Some(first) = places.get(item) {
+        return Ok(*first);
     }
     places.insert(*item, place)?;
-    Ok(())
+    Ok(place)
 }

@@ -6,3 +6,4 @@ pub mod Lowest
 pub mod Numbers
 pub mod Over
 pub mod Quotients
+pub mod Positions

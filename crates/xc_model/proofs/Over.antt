@@ -1,6 +1,6 @@
 -- Fractions as whole numbers over a common denominator.
-use Rattle.std.proofs.Common.{◌/◌, ◌≡◌, ◌≢◌, ℕ, ◌*◌, ◌<◌, ◌≤◌, ◌^◌, arith, ℤ, pos, sym, ◌∙◌, ap, inl, inr}
-use Rattle.std.specs.Prelude.{◌+ℤ◌, ◌*ℤ◌, ◌<ℤ◌, neg_ℤ, unsigned_abs}
+use Rattle.std.proofs.Common.{◌/◌, ◌≡◌, ◌≢◌, ℕ, ◌*◌, ◌<◌, ◌≤◌, ◌^◌, arith, ℤ, pos, sym, ◌∙◌, ap, subst, inl, inr}
+use Rattle.std.specs.Prelude.{◌+ℤ◌, ◌-ℤ◌, ◌*ℤ◌, ◌<ℤ◌, neg_ℤ, unsigned_abs}
 use Rattle.std.proofs.lemmas.Int.{ints}
 use Prim.Native.Nat.{◌∣◌}
 use native.Mathlib.Nat.{mul-div_cancel'}
@@ -10,8 +10,8 @@ use Rattle.xc_model.specs.Divisors.{IsCoprime}
 use Rattle.xc_model.specs.Fraction.{Fraction, SameNumber, neg_of, sum_of}
 use Rattle.xc_model.specs.Order.{OrdersInt, Orders, SameSign}
 use Rattle.xc_model.specs.Ratio.{Ratio, fraction_of, IsOver}
-use Rattle.xc_model.specs.Width.{IsNarrow, IsWide, SumPasses}
-use Rattle.xc_model.proofs.Integers.{ring, add-mul, cancel, cancel_lt, scale_lt, mul_comm, pos-unsigned_abs, factor_below}
+use Rattle.xc_model.specs.Width.{IsNarrow, IsWide, SumPasses, DifferencePasses}
+use Rattle.xc_model.proofs.Integers.{ring, add-mul, cancel, cancel_lt, scale_lt, mul_comm, pos-unsigned_abs, unsigned_abs-neg, factor_below}
 use Rattle.xc_model.proofs.Lowest.{lowest_den_divides}
 use Rattle.xc_model.proofs.Numbers.{den_some, same-sym, same-trans, same-sum, same-neg, below-same}
 
@@ -27,7 +27,7 @@ pub same_over : (f : Ratio) (n : ℤ) (d : ℕ) (p : 0 < d) → SameNumber (frac
 same_over f n d p h = record { positive = p; same = h.cross ∙ ap (λ z. n *ℤ z) (pos-unsigned_abs f.den f.lowest.positive) }
 
 -- n/d + m/d is (n + m)/d
-add_over : (n m : ℤ) (d : ℕ) (p : 0 < d) → SameNumber (sum_of (ratio n d p) (ratio m d p)) (ratio (n +ℤ m) d p)
+pub add_over : (n m : ℤ) (d : ℕ) (p : 0 < d) → SameNumber (sum_of (ratio n d p) (ratio m d p)) (ratio (n +ℤ m) d p)
 add_over n m d p = record {
   cross =
       let e : (a b c : ℤ) → (a *ℤ c +ℤ b *ℤ c) *ℤ c ≡ (a +ℤ b) *ℤ (c *ℤ c) = λ a b c. simp ring (omega (arith, ints)) in
@@ -88,6 +88,13 @@ pub sum_room : (f g : Ratio) (n m : ℤ) (d : ℕ) → IsOver f n d → IsOver g
 sum_room f g n m d left right =
     let p = left.positive in
     room (fraction_of f) (fraction_of g) n m d p (over_same f n d p left) (over_same g m d p right) f.lowest.coprime g.lowest.coprime
+
+pub difference_room : (f g : Ratio) (n m : ℤ) (d : ℕ) → IsOver f n d → IsOver g m d → d < 2 ^ 127 → IsNarrow n → IsNarrow m → IsNarrow (n -ℤ m) → DifferencePasses (fraction_of f) (fraction_of g) → ⊥
+difference_room f g n m d left right d_narrow n_narrow m_narrow difference_narrow =
+    let p = left.positive in
+    let turned : SameNumber (neg_of (fraction_of g)) (ratio (neg_ℤ m) d p) = same-neg (fraction_of g) (ratio m d p) (over_same g m d p right) in
+    let lowest : IsCoprime (unsigned_abs (neg_ℤ g.num)) (fraction_of g).den = subst (λ z. IsCoprime z (fraction_of g).den) (sym (unsigned_abs-neg g.num)) g.lowest.coprime in
+    room (fraction_of f) (neg_of (fraction_of g)) n (neg_ℤ m) d p (over_same f n d p left) turned f.lowest.coprime lowest d_narrow n_narrow (omega (arith, ints, unsigned_abs-neg m)) (omega (arith, ints))
 
 same_factor : (d : ℕ) (n m : ℤ) → 0 < d → n *ℤ pos d ≡ m *ℤ pos d → n ≡ m
 same_factor d n m p e = cancel (pos d) n m (λ z. absurd (omega (arith, ints, z))) (mul_comm (pos d) n ∙ e ∙ mul_comm m (pos d))

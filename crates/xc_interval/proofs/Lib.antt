@@ -1,0 +1,14 @@
+pub mod Admitted
+pub mod Emptiness
+mod Examples
+pub mod Groups
+pub mod Mapped
+pub mod Meeting
+pub mod Multiples
+pub mod Numbers
+pub mod Passing
+pub mod Reals
+pub mod Sides
+pub mod Sums
+pub mod Tighter
+pub mod Units

@@ -1,0 +1,25 @@
+-- What follows from the definitions for all intervals.
+use Rattle.std.specs.Prelude.{◌≢◌, pos, ◌↔◌}
+use Rattle.xc_model.specs.Fraction.{Fraction}
+use Rattle.xc_frac.specs.Parts.{real_alone}
+use Rattle.xc_interval.specs.Arithmetic.{IsSumInterval, IsSumFrom, IsScaled, IsMultiple}
+use Rattle.xc_interval.specs.Intervals.{LiesIn, Crosses, between, HasPair, HasNumber}
+use Rattle.xc_interval.specs.declared.interval.Interval.{Interval}
+
+module _ {A : Type 0} (Less Same : A → A → Type 0) where
+  -- an interval is empty exactly where nothing lies in it; where it is not, something does
+  abbrev pub EndsTell : Type 0
+  EndsTell = (i : Interval A) → (Crosses Less Same i → (x : A) → ¬ LiesIn Less Same i x) × (¬ Crosses Less Same i → (x : A) × LiesIn Less Same i x)
+
+  -- of two intervals that are not empty, something lies in the sum exactly where it is a sum of one value of each
+  abbrev pub HasSums : (A → A → A) → Type 0
+  HasSums sum = (i j s : Interval A) → ¬ Crosses Less Same i → ¬ Crosses Less Same j → IsSumInterval Same sum i j s
+      → (x : A) → LiesIn Less Same s x ↔ IsSumFrom Less Same sum i j x
+
+-- a number lies in a multiple of an interval exactly where it is that multiple of a number of it
+abbrev pub HasMultiples : Type 0
+HasMultiples = (k : Fraction) (i m : Interval Fraction) → k.num ≢ pos 0 → IsScaled k i m → (x : Fraction) → HasNumber m x ↔ IsMultiple k i x
+
+-- among pairs without a tiny part, an interval of numbers has the numbers that lie in it
+abbrev pub HasRealsAlone : Type 0
+HasRealsAlone = (i : Interval Fraction) (x : Fraction) → HasPair (between (λ y. real_alone y) i) (real_alone x) ↔ HasNumber i x

@@ -1,0 +1,28 @@
+//! What follows from the definitions for all intervals. The functions do nothing: code calls one
+//! where its proof needs the clauses.
+ghost use Rattle.xc_model.specs.Fraction.{SameNumber, IsBelow, sum_of};
+ghost use Rattle.xc_frac.specs.Parts.{IsLess, SameParts, sum_parts};
+ghost use Rattle.xc_interval.specs.Laws.{EndsTell, HasSums, HasMultiples, HasRealsAlone};
+
+/// Whether something lies in an interval is told by its ends.
+pub fn ends_tell()
+    ensures numbers { EndsTell IsBelow SameNumber }
+    ensures pairs { EndsTell IsLess SameParts }
+{}
+
+/// A number is in the sum of two intervals that are not empty exactly where it is a sum of one
+/// number of each, open ends included; and so for numbers with an infinitely small part.
+pub fn sums()
+    ensures numbers { HasSums IsBelow SameNumber sum_of }
+    ensures pairs { HasSums IsLess SameParts sum_parts }
+{}
+
+/// A number is in a multiple of an interval exactly where it is that multiple of one of its numbers.
+pub fn multiples()
+    ensures { HasMultiples }
+{}
+
+/// An interval of numbers without an infinitely small part has the numbers that lie in it.
+pub fn reals()
+    ensures { HasRealsAlone }
+{}

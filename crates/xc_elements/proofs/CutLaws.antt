@@ -20,21 +20,21 @@ item_piece is_first text rest m e =
     let t = (item_ends is_first).taken text m rest e in
     (t.piece, t.whole, ap (λ (x : List ℕ). item is_first x) (sym (append-nil t.piece)) ∙ t.again [], t.some)
 
-abbrev piece_of : List ℕ → Meaning → Piece
+abbrev pub piece_of : List ℕ → Meaning → Piece
 piece_of text m = record { text = text; meaning = m }
 
 -- the first pieces of two cuts are one, and what follows them too
-same_piece : (is_first : Bool) (p q : Piece) (x y : List ℕ) → item is_first p.text ≡ Some (p.meaning, []) → item is_first q.text ≡ Some (q.meaning, []) → p.text ++ x ≡ q.text ++ y → (p ≡ q) × (x ≡ y)
+pub same_piece : (is_first : Bool) (p q : Piece) (x y : List ℕ) → item is_first p.text ≡ Some (p.meaning, []) → item is_first q.text ≡ Some (q.meaning, []) → p.text ++ x ≡ q.text ++ y → (p ≡ q) × (x ≡ y)
 same_piece is_first p q x y hp hq e =
     let same = same_answer p.meaning q.meaning x y (sym (item_goes_on is_first p.text x p.meaning hp) ∙ ap (λ (t : List ℕ). item is_first t) e ∙ item_goes_on is_first q.text y q.meaning hq) in
     let texts : p.text ≡ q.text = append_cancel_right p.text q.text y (ap (λ (t : List ℕ). p.text ++ t) (sym same.1) ∙ e) in
     (ap (λ (t : List ℕ). piece_of t p.meaning) texts ∙ ap (λ m. piece_of q.text m) same.0, same.1)
 
-begins-false : (ps : List Piece) → begins false ps ≡ false
+pub begins-false : (ps : List Piece) → begins false ps ≡ false
 begins-false [] = refl
 begins-false (p ∷ ps) = refl
 
-stops_early : (is_first : Bool) (q : Piece) (qs : List Piece) (r s : List ℕ) → item is_first r ≡ None → item is_first q.text ≡ Some (q.meaning, []) → r ≡ joined (q ∷ qs) ++ s → ⊥
+pub stops_early : (is_first : Bool) (q : Piece) (qs : List Piece) (r s : List ℕ) → item is_first r ≡ None → item is_first q.text ≡ Some (q.meaning, []) → r ≡ joined (q ∷ qs) ++ s → ⊥
 stops_early is_first q qs r s stop here e =
     let goes = item_goes_on is_first q.text (joined qs ++ s) q.meaning here in
     let both = sym stop ∙ ap (λ (t : List ℕ). item is_first t) (e ∙ append_assoc q.text (joined qs) s) ∙ goes in
@@ -53,7 +53,7 @@ cuts_same is_first (p ∷ ps) (q ∷ qs) r s ip iq sp sq e =
 pub one_fault_holds : OneFault
 one_fault_holds is_first text ps qs r s cp sp cq sq = cuts_same is_first ps qs r s cp.items cq.items sp sq (sym cp.whole ∙ cq.whole)
 
-nothing_is_no_item : (is_first : Bool) → item is_first [] ≡ None
+pub nothing_is_no_item : (is_first : Bool) → item is_first [] ≡ None
 unfolding item by_next one
 nothing_is_no_item is_first = refl
 
@@ -62,16 +62,16 @@ one_cut_holds is_first text ps qs cp cq = (one_fault_holds is_first text ps qs [
 
 -- ---- a loop over the items of a text
 
-items_more : (is_first : Bool) (ps : List Piece) (p : Piece) → AreItems is_first ps → item (begins is_first ps) p.text ≡ Some (p.meaning, []) → AreItems is_first (ps ++ p ∷ [])
+pub items_more : (is_first : Bool) (ps : List Piece) (p : Piece) → AreItems is_first ps → item (begins is_first ps) p.text ≡ Some (p.meaning, []) → AreItems is_first (ps ++ p ∷ [])
 items_more is_first [] p h e = (e, tt)
 items_more is_first (q ∷ qs) p h e = (h.0, items_more false qs p h.1 (ap (λ b. item b p.text) (begins-false qs) ∙ e))
 
-joined_more : (ps : List Piece) (text : List ℕ) (m : Meaning) (after : List ℕ) → joined (ps ++ piece_of text m ∷ []) ++ after ≡ joined ps ++ (text ++ after)
+pub joined_more : (ps : List Piece) (text : List ℕ) (m : Meaning) (after : List ℕ) → joined (ps ++ piece_of text m ∷ []) ++ after ≡ joined ps ++ (text ++ after)
 joined_more [] text m after = ap (λ (t : List ℕ). t ++ after) (append-nil text)
 joined_more (q ∷ qs) text m after =
     append_assoc q.text (joined (qs ++ piece_of text m ∷ [])) after ∙ ap (λ (t : List ℕ). q.text ++ t) (joined_more qs text m after) ∙ sym (append_assoc q.text (joined qs) (text ++ after))
 
-begun : (ps : List Piece) (p : Piece) → begins true (ps ++ p ∷ []) ≡ false
+pub begun : (ps : List Piece) (p : Piece) → begins true (ps ++ p ∷ []) ≡ false
 begun [] p = refl
 begun (q ∷ qs) p = refl
 

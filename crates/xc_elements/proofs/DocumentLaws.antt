@@ -24,7 +24,7 @@ pub record Reached (bytes rest : List ℕ) (is_first : Bool) : Type 0 where
 pub reached_start : (bytes rest front : List ℕ) → IsUtf8 bytes → chars rest ≡ text_of bytes → bytes ≡ front ++ rest → Reached bytes rest true
 reached_start bytes rest front utf8 text e = record { utf8 = utf8; pieces = []; cut = record { items = tt; whole = sym text }; first = refl; front = front; bytes_are = e }
 
-here_is_item : (text after : List ℕ) (is_first first : Bool) (m : Meaning) → first ≡ is_first → Some (m, after) ≡ item is_first text → item first text ≡ Some (m, after)
+pub here_is_item : (text after : List ℕ) (is_first first : Bool) (m : Meaning) → first ≡ is_first → Some (m, after) ≡ item is_first text → item first text ≡ Some (m, after)
 here_is_item text after is_first first m e is = ap (λ b. item b text) e ∙ sym is
 
 pub reached_more : (bytes rest after : List ℕ) (is_first : Bool) (m : Meaning) → Reached bytes rest is_first → IsUtf8 rest → IsUtf8 after → Some (m, chars after) ≡ item is_first (chars rest) → Reached bytes after false
@@ -42,11 +42,11 @@ reached_fits bytes rest is_first t = omega (arith, ap length t.bytes_are, length
 pub item_shorter : (text after : List ℕ) (is_first : Bool) (m : Meaning) → Some (m, after) ≡ item is_first text → length after < length text
 item_shorter text after is_first m is = ends_shorter (item is_first) text m after (item_ends is_first) (sym is)
 
-nil_is : (text : List ℕ) → is_nil text ≡ true → text ≡ []
+pub nil_is : (text : List ℕ) → is_nil text ≡ true → text ≡ []
 nil_is [] e = refl
 nil_is (c ∷ cs) e = absurd cc
 
-not_nil : (text : List ℕ) → is_nil text ≡ false → text ≡ [] → ⊥
+pub not_nil : (text : List ℕ) → is_nil text ≡ false → text ≡ [] → ⊥
 not_nil [] e f = absurd cc
 not_nil (c ∷ cs) e f = absurd cc
 

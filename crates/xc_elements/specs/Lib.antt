@@ -2,3 +2,12 @@ pub mod Fronts
 pub mod Items
 pub mod Views
 pub mod Documents
+pub mod Trees
+pub mod Namespaces
+pub mod Elements
+pub mod Doubles
+pub mod Bindings
+pub mod Kept
+pub mod Reading
+pub mod Faults
+pub mod DocumentTrees

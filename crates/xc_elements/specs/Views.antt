@@ -69,6 +69,18 @@ abbrev pub IsReadablePart : TagPart → Type 0
 IsReadablePart (parts.Attribute attribute) = IsReadable attribute.value
 IsReadablePart (parts.End is_empty) = Unit {0}
 
+-- the text of a tag has its attributes at its front
+abbrev pub IsReadableItem : Item → Type 0
+IsReadableItem items.Declaration = Unit {0}
+IsReadableItem (items.Start tag) = IsSome (tag_rest (lent tag.attributes))
+IsReadableItem (items.Empty tag) = IsSome (tag_rest (lent tag.attributes))
+IsReadableItem (items.End name) = Unit {0}
+IsReadableItem items.Comment = Unit {0}
+IsReadableItem items.Instruction = Unit {0}
+IsReadableItem (items.Section text) = Unit {0}
+IsReadableItem (items.Letter c) = Unit {0}
+IsReadableItem (items.Reference c) = Unit {0}
+
 -- a part of a declaration, or its end
 abbrev pub part_turn_view : Bool → Turn Unit Unit
 part_turn_view true = Last tt

@@ -1,9 +1,9 @@
 // The declaration with which a document may begin.
-ghost use Rattle.std.specs.Prelude.{◌≡◌, option_map};
+ghost use Rattle.std.specs.Prelude.{◌≡◌, IfSome, option_map};
 ghost use Rattle.std.specs.Str.{chars};
 ghost use Rattle.xc_elements.specs.Fronts.{sequence, ending};
 ghost use Rattle.xc_elements.specs.Items.{is_known_encoding, may_declare, part, part_turn, declaration};
-ghost use Rattle.xc_elements.specs.Views.{at_front, behind, part_turn_view, item_view};
+ghost use Rattle.xc_elements.specs.Views.{at_front, behind, part_turn_view, item_view, IsReadableItem};
 
 use crate::attributes::{equals, quote};
 use crate::items::Item;
@@ -13,7 +13,8 @@ use crate::texts::{Class, exactly, is_nothing, next_char, run, spells, spells_in
 /// The declaration, of which the `<?xml` has been read, and the text behind it.
 #[tactic(auto, unfolding(crate::specs::Fronts::followed_by, crate::specs::Fronts::give, crate::specs::Items::declaration))]
 pub(crate) fn declaration(text: &str) -> Option<(Item<'_>, &str)>
-    ensures { option_map (at_front item_view) result ≡ declaration (chars text.now) }
+    ensures value { option_map (at_front item_view) result ≡ declaration (chars text.now) }
+    ensures readable { IfSome result (λ x. IsReadableItem x.0) }
 {
     match declaration_end(text) {
         Some(rest) => Some((Item::Declaration, rest)),

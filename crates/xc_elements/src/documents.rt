@@ -15,6 +15,7 @@ pub fn text_of(bytes: &[u8]) -> Result<&str, ItemFault>
     ensures text { IfOk result (λ text. chars text.now ≡ without_mark (chars bytes.now)) }
     ensures end { IfOk result (λ text. (mark : List ℕ) × (bytes.now ≡ mark ++ text.now)) }
     ensures fault { IfErr result (λ fault. IsFault bytes.now fault) }
+    ensures not_utf8 { IfErr result (λ _. ¬ (IsUtf8 bytes.now)) }
 {
     match std::str::from_utf8(bytes) {
         Ok(text) => Ok(behind_mark(text)),

@@ -8,3 +8,39 @@ pub enum ItemFault {
     /// A document type begins here, which is not read.
     Doctype(u64),
 }
+
+/// Why a document has no tree, each with the byte at which that shows.
+#[derive(Clone, Copy, Debug, PartialEq, Eq)]
+pub enum TreeFault {
+    /// Memory ran out.
+    Memory,
+    /// From here on the bytes are not UTF-8.
+    NotUtf8(u64),
+    /// No item begins here.
+    NotItem(u64),
+    /// A document type begins here, which is not read.
+    Doctype(u64),
+    /// The item here does not fit the elements that are open, or the document ends here without its root's end.
+    Unbalanced(u64),
+    /// The tag here stands inside 127 open elements, which is the limit.
+    TooDeep(u64),
+    /// The tag here has a prefix that is not declared, or declares an empty namespace for a prefix.
+    NoSpace(u64),
+    /// Two attributes of the tag here have one expanded name.
+    SameAttribute(u64),
+}
+
+impl From<ItemFault> for TreeFault {
+    ghost use Rattle.std.specs.Prelude.{◌≡◌};
+    ghost use Rattle.xc_elements.specs.Faults.{tree_fault};
+
+    ghost from_gives = { λ fault other. other ≡ tree_fault fault };
+
+    fn from(fault: ItemFault) -> Self {
+        match fault {
+            ItemFault::NotUtf8(place) => TreeFault::NotUtf8(place),
+            ItemFault::NotItem(place) => TreeFault::NotItem(place),
+            ItemFault::Doctype(place) => TreeFault::Doctype(place),
+        }
+    }
+}

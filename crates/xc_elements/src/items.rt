@@ -1,8 +1,8 @@
 // The items of a document.
-ghost use Rattle.std.specs.Prelude.{◌≡◌, option_map};
+ghost use Rattle.std.specs.Prelude.{◌≡◌, IfSome, option_map};
 ghost use Rattle.std.specs.Str.{chars};
 ghost use Rattle.xc_elements.specs.Items.{instruction_rest, behind_target, instruction, comment, section, comment_or_section, markup, letter, item};
-ghost use Rattle.xc_elements.specs.Views.{at_front, item_view};
+ghost use Rattle.xc_elements.specs.Views.{at_front, item_view, IsReadableItem};
 
 use crate::declarations::declaration;
 use crate::names::{QualifiedName, plain_name};
@@ -38,7 +38,8 @@ pub enum Item<'a> {
 /// first items.
 #[tactic(auto, unfolding(crate::specs::Fronts::followed_by, crate::specs::Fronts::give, crate::specs::Fronts::refuse, crate::specs::Fronts::by_next, crate::specs::Items::item))]
 pub fn item_at(text: &str, is_first: bool) -> Option<(Item<'_>, &str)>
-    ensures { option_map (at_front item_view) result ≡ item is_first (chars text.now) }
+    ensures value { option_map (at_front item_view) result ≡ item is_first (chars text.now) }
+    ensures readable { IfSome result (λ x. IsReadableItem x.0) }
 {
     let Some((c, rest)) = next_char(text) else {
         return None;
@@ -57,7 +58,8 @@ pub fn item_at(text: &str, is_first: bool) -> Option<(Item<'_>, &str)>
 
 #[tactic(auto, unfolding(crate::specs::Fronts::followed_by, crate::specs::Fronts::give, crate::specs::Fronts::refuse, crate::specs::Fronts::by_next, crate::specs::Items::letter))]
 fn letter(text: &str) -> Option<(Item<'_>, &str)>
-    ensures { option_map (at_front item_view) result ≡ letter (chars text.now) }
+    ensures value { option_map (at_front item_view) result ≡ letter (chars text.now) }
+    ensures readable { IfSome result (λ x. IsReadableItem x.0) }
 {
     match next_char(text) {
         Some((c, rest)) => {
@@ -74,7 +76,8 @@ fn letter(text: &str) -> Option<(Item<'_>, &str)>
 /// What begins with the `<` that has been read.
 #[tactic(auto, unfolding(crate::specs::Fronts::followed_by, crate::specs::Fronts::give, crate::specs::Fronts::refuse, crate::specs::Fronts::by_next, crate::specs::Items::markup))]
 fn markup(text: &str, is_first: bool) -> Option<(Item<'_>, &str)>
-    ensures { option_map (at_front item_view) result ≡ markup is_first (chars text.now) }
+    ensures value { option_map (at_front item_view) result ≡ markup is_first (chars text.now) }
+    ensures readable { IfSome result (λ x. IsReadableItem x.0) }
 {
     let Some((c, rest)) = next_char(text) else {
         return None;
@@ -93,7 +96,8 @@ fn markup(text: &str, is_first: bool) -> Option<(Item<'_>, &str)>
 /// An instruction or the declaration, of which the `<?` has been read.
 #[tactic(auto, unfolding(crate::specs::Fronts::followed_by, crate::specs::Fronts::give, crate::specs::Fronts::refuse, crate::specs::Fronts::by_next, crate::specs::Items::instruction))]
 fn instruction(text: &str, is_first: bool) -> Option<(Item<'_>, &str)>
-    ensures { option_map (at_front item_view) result ≡ instruction is_first (chars text.now) }
+    ensures value { option_map (at_front item_view) result ≡ instruction is_first (chars text.now) }
+    ensures readable { IfSome result (λ x. IsReadableItem x.0) }
 {
     let Some((target, rest)) = plain_name(text) else {
         return None;
@@ -110,7 +114,8 @@ fn instruction(text: &str, is_first: bool) -> Option<(Item<'_>, &str)>
 /// An instruction, of which the target has been read.
 #[tactic(auto, unfolding(crate::specs::Fronts::followed_by, crate::specs::Fronts::give, crate::specs::Fronts::refuse, crate::specs::Fronts::by_next, crate::specs::Items::instruction_rest))]
 fn instruction_rest(text: &str) -> Option<(Item<'_>, &str)>
-    ensures { option_map (at_front item_view) result ≡ instruction_rest (chars text.now) }
+    ensures value { option_map (at_front item_view) result ≡ instruction_rest (chars text.now) }
+    ensures readable { IfSome result (λ x. IsReadableItem x.0) }
 {
     let Some((c, _)) = next_char(text) else {
         return None;
@@ -131,7 +136,8 @@ fn instruction_rest(text: &str) -> Option<(Item<'_>, &str)>
 /// A comment or a section, of which the `<!` has been read.
 #[tactic(auto, unfolding(crate::specs::Fronts::followed_by, crate::specs::Fronts::give, crate::specs::Fronts::refuse, crate::specs::Fronts::by_next, crate::specs::Items::comment_or_section))]
 fn comment_or_section(text: &str) -> Option<(Item<'_>, &str)>
-    ensures { option_map (at_front item_view) result ≡ comment_or_section (chars text.now) }
+    ensures value { option_map (at_front item_view) result ≡ comment_or_section (chars text.now) }
+    ensures readable { IfSome result (λ x. IsReadableItem x.0) }
 {
     let Some((c, _)) = next_char(text) else {
         return None;
@@ -152,7 +158,8 @@ fn comment_or_section(text: &str) -> Option<(Item<'_>, &str)>
 /// A comment, of which the `<!--` has been read.
 #[tactic(auto, unfolding(crate::specs::Fronts::followed_by, crate::specs::Fronts::give, crate::specs::Fronts::refuse, crate::specs::Fronts::by_next, crate::specs::Items::comment))]
 fn comment(text: &str) -> Option<(Item<'_>, &str)>
-    ensures { option_map (at_front item_view) result ≡ comment (chars text.now) }
+    ensures value { option_map (at_front item_view) result ≡ comment (chars text.now) }
+    ensures readable { IfSome result (λ x. IsReadableItem x.0) }
 {
     let Some((_, rest)) = up_to(text, &['-', '-']) else {
         return None;
@@ -166,7 +173,8 @@ fn comment(text: &str) -> Option<(Item<'_>, &str)>
 /// A section of characters, of which the `<![CDATA[` has been read.
 #[tactic(auto, unfolding(crate::specs::Fronts::followed_by, crate::specs::Fronts::give, crate::specs::Fronts::refuse, crate::specs::Fronts::by_next, crate::specs::Items::section))]
 fn section(text: &str) -> Option<(Item<'_>, &str)>
-    ensures { option_map (at_front item_view) result ≡ section (chars text.now) }
+    ensures value { option_map (at_front item_view) result ≡ section (chars text.now) }
+    ensures readable { IfSome result (λ x. IsReadableItem x.0) }
 {
     match up_to(text, &[']', ']', '>']) {
         Some((inside, rest)) => Some((Item::Section(inside), rest)),

@@ -1,4 +1,5 @@
-//! Laws of the cut into items.
+//! Laws of the cut into items, and of trees and faults.
+ghost use Rattle.xc_elements.specs.DocumentTrees.{OneTree, TreeOrFault, OneFirstFault};
 ghost use Rattle.xc_elements.specs.Documents.{OneCut, OneFault};
 
 /// A text has one cut into items at most.
@@ -9,4 +10,19 @@ pub fn one_cut()
 /// The items before a place at which no item stands, and that place, are the same in every cut that leads to one.
 pub fn one_fault()
     ensures { OneFault }
+{}
+
+/// A document has one tree at most: its bytes determine the elements, their names, attributes and texts.
+pub fn one_tree()
+    ensures { OneTree }
+{}
+
+/// A document with a tree has no fault.
+pub fn tree_or_fault()
+    ensures { TreeOrFault }
+{}
+
+/// A document has one first fault at most.
+pub fn one_first_fault()
+    ensures { OneFirstFault }
 {}

@@ -1,10 +1,11 @@
 // Names as they are written.
 ghost use Rattle.std.specs.Prelude.{◌≡◌, option_map};
 ghost use Rattle.std.specs.Str.{chars};
+ghost use Rattle.xc_elements.specs.Elements.{same_name};
 ghost use Rattle.xc_elements.specs.Items.{plain_name, qualified_name};
 ghost use Rattle.xc_elements.specs.Views.{lent, at_front, name_view};
 
-use crate::texts::{Class, next_char, run};
+use crate::texts::{Class, next_char, run, same_text};
 use xc_frac::characters::is_name_start;
 
 /// A name of a tag or an attribute as it is written: two plain names joined by a colon, or one alone.
@@ -61,4 +62,11 @@ pub(crate) fn qualified_name(text: &str) -> Option<(QualifiedName<'_>, &str)>
         )),
         None => None,
     }
+}
+
+/// Whether two names are the same as they are written.
+pub(crate) fn same_name(one: QualifiedName, other: QualifiedName) -> bool
+    ensures { result ≡ same_name (name_view one.entry) (name_view other.entry) }
+{
+    same_text(one.prefix, other.prefix) && same_text(one.local, other.local)
 }

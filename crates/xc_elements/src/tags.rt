@@ -3,7 +3,7 @@ ghost use Rattle.std.specs.Prelude.{◌≡◌, IfSome, option_map};
 ghost use Rattle.std.specs.Str.{chars};
 ghost use Rattle.xc_elements.specs.Fronts.{ending};
 ghost use Rattle.xc_elements.specs.Items.{tag_turn, tag_rest, tag, end_tag};
-ghost use Rattle.xc_elements.specs.Views.{at_front, tag_part_view, item_view, IsReadablePart};
+ghost use Rattle.xc_elements.specs.Views.{at_front, tag_part_view, item_view, IsReadablePart, IsReadableItem};
 
 use crate::attributes::{WrittenAttribute, attribute};
 use crate::items::Item;
@@ -72,7 +72,8 @@ fn tag_end(text: &str) -> Option<(bool, &str)>
 /// A start tag or an empty tag, of which the `<` has been read, and the text behind it.
 #[tactic(auto, using(crate::proofs::StepLaws::tag_ended), unfolding(crate::specs::Fronts::followed_by, crate::specs::Fronts::give, crate::specs::Items::tag))]
 pub(crate) fn tag_at(text: &str) -> Option<(Item<'_>, &str)>
-    ensures { option_map (at_front item_view) result ≡ tag (chars text.now) }
+    ensures value { option_map (at_front item_view) result ≡ tag (chars text.now) }
+    ensures readable { IfSome result (λ x. IsReadableItem x.0) }
 {
     let Some((name, attributes)) = qualified_name(text) else {
         return None;
@@ -93,7 +94,8 @@ pub(crate) fn tag_at(text: &str) -> Option<(Item<'_>, &str)>
 /// An end tag, of which the `</` has been read, and the text behind it.
 #[tactic(auto, unfolding(crate::specs::Fronts::followed_by, crate::specs::Fronts::give, crate::specs::Fronts::refuse, crate::specs::Fronts::by_next, crate::specs::Items::end_tag))]
 pub(crate) fn end_tag(text: &str) -> Option<(Item<'_>, &str)>
-    ensures { option_map (at_front item_view) result ≡ end_tag (chars text.now) }
+    ensures value { option_map (at_front item_view) result ≡ end_tag (chars text.now) }
+    ensures readable { IfSome result (λ x. IsReadableItem x.0) }
 {
     let Some((name, rest)) = qualified_name(text) else {
         return None;

@@ -1,10 +1,12 @@
 // What stands at the front of a text, and what follows it.
-ghost use Rattle.std.specs.Prelude.{◌≡◌, ◌<◌, ◌++◌, ℕ, List, IfSome, length, option_map};
-ghost use Rattle.std.specs.Str.{chars};
+ghost use Rattle.std.specs.Prelude.{◌≡◌, ◌<◌, ◌++◌, ℕ, List, IfSome, IfOk, length, option_map, encode_utf8_all};
+ghost use Rattle.std.specs.Str.{chars, bytes_eq};
 ghost use Rattle.xc_elements.specs.Fronts.{one, exactly, run, up_to};
 ghost use Rattle.xc_elements.specs.Items.{is_nil, spells, spells_in_any_case};
 ghost use Rattle.xc_elements.specs.Views.{lent, at_front, behind, is_in};
 
+use std::alloc::{AllocError, Global};
+use xc_frac::Text;
 use xc_frac::characters::{is_character, is_name_char, is_space};
 
 /// A class of characters that may stand in a row.
@@ -135,4 +137,19 @@ pub(crate) fn spells_in_any_case(text: &str, word: &[char]) -> bool
         }
     }
     is_nothing(rest)
+}
+
+/// Whether two texts are the same.
+pub(crate) fn same_text(one: &str, other: &str) -> bool
+    ensures { result ≡ bytes_eq (chars one.now) (chars other.now) }
+{
+    one == other
+}
+
+/// A text in memory of its own.
+pub(crate) fn copied(alloc: Global, text: &str) -> Result<Text, AllocError>
+    ensures bytes { IfOk result (λ copy. copy ≡ text.now) }
+    ensures characters { IfOk result (λ copy. copy ≡ encode_utf8_all (chars text.now)) }
+{
+    Ok(Text::of(String::from_str(alloc, text)?))
 }

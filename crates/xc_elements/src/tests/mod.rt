@@ -1,3 +1,5 @@
+mod trees;
+
 use super::*;
 use std::test::*;
 use xc_frac::characters::{is_name_char, is_name_start};

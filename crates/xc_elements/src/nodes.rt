@@ -1,0 +1,56 @@
+// The nodes of trees.
+ghost use Rattle.std.specs.Prelude.{◌≡◌, ◌&&◌, option_map};
+ghost use Rattle.std.specs.Str.{bytes_eq};
+ghost use Rattle.xc_elements.specs.Trees.{is_named, value_among};
+
+use xc_frac::{Items, Text};
+
+/// An attribute of an element, by its expanded name.
+///
+/// Declarations of namespaces are among the attributes, in the namespace
+/// `http://www.w3.org/2000/xmlns/`, with the prefix as local part, or the empty local part for the default.
+#[derive(Debug, Drop)]
+pub struct Attribute {
+    /// The URI of the name's namespace, empty where it has none.
+    pub space: Text,
+    pub local: Text,
+    /// The value, with white space as XML 1.0 normalizes it: sections 2.11 and 3.3.3.
+    pub value: Text,
+}
+
+/// An element of a document.
+#[derive(Debug, Drop)]
+pub struct Node {
+    /// The URI of the name's namespace, empty where it has none.
+    pub space: Text,
+    pub local: Text,
+    /// In the order of the document.
+    pub attributes: Items<Attribute>,
+    /// The number of the element that it stands directly in.
+    pub parent: Option<u32>,
+    /// The number behind the last element inside it.
+    pub end: u32,
+    /// The text directly in it: letters, references and sections, with each end of a line as a line feed.
+    pub text: Text,
+}
+
+/// Whether the attribute has this expanded name.
+pub(crate) fn is_named(attribute: &Attribute, space: &str, local: &str) -> bool
+    ensures { result ≡ is_named space.now local.now attribute.now }
+{
+    attribute.space.as_str() == space && attribute.local.as_str() == local
+}
+
+/// The value of the attribute with this expanded name.
+pub(crate) fn value_among<'a>(
+    attributes: &'a [Attribute],
+    space: &str,
+    local: &str,
+) -> Option<&'a str>
+    ensures { option_map (λ value. value.now) result ≡ value_among attributes.now space.now local.now }
+{
+    attributes
+        .iter()
+        .find(|attribute| is_named(attribute, space, local))
+        .map(|attribute| attribute.value.as_str())
+}

@@ -1,0 +1,202 @@
+// The reader of a document's items, with what is open.
+ghost use Rattle.std.specs.Prelude.{◌≡◌, ◌==◌, ◌||◌, not, ◌<◌, ◌+◌, ◌^◌, ◌++◌, ◌∷◌, [], IfOk, IfErr, IsSome, List, length};
+ghost use Rattle.xc_elements.specs.Items.{Meaning, End, Letter, Reference, Section, tag_rest};
+ghost use Rattle.xc_elements.specs.Kept.{AreBelow, none_kept};
+ghost use Rattle.xc_elements.specs.Namespaces.{declarations};
+ghost use Rattle.xc_elements.specs.Reading.{Reads, IsFine, IsRefused, IsRefusedAt, HasNode, tag_view};
+ghost use Rattle.xc_elements.specs.Views.{lent, name_view, item_view, IsReadableItem};
+
+use crate::expanded::{declare, new_node};
+use crate::items::Item;
+use crate::names::{QualifiedName, same_name};
+use crate::nodes::Node;
+use crate::opens::{OpenElement, Opens};
+use crate::refusal::Refusal;
+use crate::scope::Scope;
+use crate::tags::Tag;
+use std::alloc::Global;
+use xc_frac::Text;
+use xc_frac::characters::is_space;
+
+/// How many elements may be open.
+const DEPTH_LIMIT: usize = 127;
+
+/// What is kept of the items that have been read.
+#[derive(Drop)]
+pub(crate) struct Reader<'a> {
+    /// The elements that have begun. The text and the end of one that is open are set when it ends.
+    pub(crate) nodes: Vec<Node>,
+    pub(crate) opens: Opens<'a>,
+    /// What the open elements declare.
+    pub(crate) scope: Scope<'a>,
+    /// Whether the last item was a carriage return.
+    pub(crate) behind_return: bool,
+}
+
+impl<'a> Reader<'a> {
+    /// A reader that has read nothing.
+    pub(crate) fn new(alloc: Global) -> Reader<'a>
+        ensures { Reads result [] }
+    {
+        Reader {
+            nodes: Vec::new(alloc),
+            opens: Opens::new(alloc),
+            scope: Scope::new(alloc),
+            behind_return: false,
+        }
+    }
+
+    /// Reads an item.
+    pub(crate) fn read(&mut self, alloc: Global, item: Item<'a>) -> Result<(), Refusal>
+        requires readable { IsReadableItem item }
+        requires room { length self.old.nodes.items + 1 < 2 ^ 32 }
+        requires begun { AreBelow (length self.old.nodes.items) self.old.opens }
+        ensures reads { IfOk result (λ _. (before : List Meaning) → Reads self.old before → Reads self.new (item_view item.entry ∷ before)) }
+        ensures fine { IfOk result (λ _. (before : List Meaning) → Reads self.old before → IsFine before (item_view item.entry)) }
+        ensures refused { IfErr result (λ refusal. (before : List Meaning) → Reads self.old before → IsRefused before (item_view item.entry) refusal) }
+    {
+        match item {
+            Item::Start(tag) => self.start(alloc, tag),
+            Item::Empty(tag) => self.empty(alloc, tag),
+            Item::End(name) => self.end(name),
+            Item::Section(text) => self.section(text),
+            Item::Letter(c) => self.letter(c),
+            Item::Reference(c) => self.reference(c),
+            Item::Declaration | Item::Comment | Item::Instruction => {
+                self.behind_return = false;
+                Ok(())
+            }
+        }
+    }
+
+    /// Whether an element is open, or none has begun.
+    pub(crate) fn is_unfinished(&self) -> bool
+        ensures { result ≡ (not (none_kept self.now.opens) || length self.now.nodes.items == 0) }
+    {
+        !self.opens.is_empty() || self.nodes.is_empty()
+    }
+
+    /// The node of a tag, of which the declarations come into scope.
+    fn begin(&mut self, alloc: Global, tag: Tag<'a>) -> Result<Node, Refusal>
+        requires readable { IsSome (tag_rest (lent tag.attributes)) }
+        requires room { length self.old.nodes.items + 1 < 2 ^ 32 }
+        ensures scope { IfOk result (λ _. self.new.scope ≡ declarations (tag_view tag.entry ∷ []) ++ self.old.scope) }
+        ensures opens { IfOk result (λ _. self.new.opens ≡ self.old.opens) }
+        ensures nodes { IfOk result (λ _. self.new.nodes ≡ self.old.nodes) }
+        ensures node { IfOk result (λ node. HasNode self.old.opens self.new.scope (length self.old.nodes.items) (tag_view tag.entry) node) }
+        ensures refused { IfErr result (λ refusal. IsRefusedAt self.old.opens self.old.scope (length self.old.nodes.items) (tag_view tag.entry) refusal) }
+    {
+        if self.opens.is_empty() && !self.nodes.is_empty() {
+            return Err(Refusal::Unbalanced);
+        }
+        if self.opens.len() >= DEPTH_LIMIT {
+            return Err(Refusal::TooDeep);
+        }
+        declare(alloc, &mut self.scope, tag)?;
+        let end = self.nodes.len() as u32 + 1;
+        new_node(alloc, &self.scope, tag, self.opens.innermost(), end)
+    }
+
+    /// Reads a start tag.
+    fn start(&mut self, alloc: Global, tag: Tag<'a>) -> Result<(), Refusal>
+        requires readable { IsSome (tag_rest (lent tag.attributes)) }
+        requires room { length self.old.nodes.items + 1 < 2 ^ 32 }
+        ensures reads { IfOk result (λ _. (before : List Meaning) → Reads self.old before → Reads self.new (item_view (Item.Start tag.entry) ∷ before)) }
+        ensures fine { IfOk result (λ _. (before : List Meaning) → Reads self.old before → IsFine before (item_view (Item.Start tag.entry))) }
+        ensures refused { IfErr result (λ refusal. (before : List Meaning) → Reads self.old before → IsRefused before (item_view (Item.Start tag.entry)) refusal) }
+    {
+        let outside = self.scope.len();
+        let number = self.nodes.len() as u32;
+        let node = self.begin(alloc, tag)?;
+        self.opens.push(OpenElement {
+            number,
+            name: tag.name,
+            outside,
+            text: String::new(alloc),
+        })?;
+        self.nodes.push(node)?;
+        self.behind_return = false;
+        Ok(())
+    }
+
+    /// Reads an empty tag.
+    fn empty(&mut self, alloc: Global, tag: Tag<'a>) -> Result<(), Refusal>
+        requires readable { IsSome (tag_rest (lent tag.attributes)) }
+        requires room { length self.old.nodes.items + 1 < 2 ^ 32 }
+        ensures reads { IfOk result (λ _. (before : List Meaning) → Reads self.old before → Reads self.new (item_view (Item.Empty tag.entry) ∷ before)) }
+        ensures fine { IfOk result (λ _. (before : List Meaning) → Reads self.old before → IsFine before (item_view (Item.Empty tag.entry))) }
+        ensures refused { IfErr result (λ refusal. (before : List Meaning) → Reads self.old before → IsRefused before (item_view (Item.Empty tag.entry)) refusal) }
+    {
+        let outside = self.scope.len();
+        let node = self.begin(alloc, tag)?;
+        self.scope.leave(outside);
+        self.nodes.push(node)?;
+        self.behind_return = false;
+        Ok(())
+    }
+
+    /// Reads an end tag.
+    fn end(&mut self, name: QualifiedName) -> Result<(), Refusal>
+        requires room { length self.old.nodes.items + 1 < 2 ^ 32 }
+        requires begun { AreBelow (length self.old.nodes.items) self.old.opens }
+        ensures reads { IfOk result (λ _. (before : List Meaning) → Reads self.old before → Reads self.new (End (name_view name.entry) ∷ before)) }
+        ensures fine { IfOk result (λ _. (before : List Meaning) → Reads self.old before → IsFine before (End (name_view name.entry))) }
+        ensures refused { IfErr result (λ refusal. (before : List Meaning) → Reads self.old before → IsRefused before (End (name_view name.entry)) refusal) }
+    {
+        let Some(element) = self.opens.pop() else {
+            return Err(Refusal::Unbalanced);
+        };
+        if !same_name(name, element.name) {
+            return Err(Refusal::Unbalanced);
+        }
+        let end = self.nodes.len() as u32;
+        self.scope.leave(element.outside);
+        let node = &mut self.nodes[element.number as usize];
+        node.end = end;
+        node.text = Text::of(element.text);
+        self.behind_return = false;
+        Ok(())
+    }
+
+    /// Reads a character that stands for itself.
+    fn letter(&mut self, c: char) -> Result<(), Refusal>
+        ensures reads { IfOk result (λ _. (before : List Meaning) → Reads self.old before → Reads self.new (Letter c ∷ before)) }
+        ensures fine { IfOk result (λ _. (before : List Meaning) → Reads self.old before → IsFine before (Letter c)) }
+        ensures refused { IfErr result (λ refusal. (before : List Meaning) → Reads self.old before → IsRefused before (Letter c) refusal) }
+    {
+        if self.opens.is_empty() && !is_space(c) {
+            return Err(Refusal::Unbalanced);
+        }
+        self.opens.add_written(c, self.behind_return)?;
+        self.behind_return = c == '\r';
+        Ok(())
+    }
+
+    /// Reads a reference to a character.
+    fn reference(&mut self, c: char) -> Result<(), Refusal>
+        ensures reads { IfOk result (λ _. (before : List Meaning) → Reads self.old before → Reads self.new (Reference c ∷ before)) }
+        ensures fine { IfOk result (λ _. (before : List Meaning) → Reads self.old before → IsFine before (Reference c)) }
+        ensures refused { IfErr result (λ refusal. (before : List Meaning) → Reads self.old before → IsRefused before (Reference c) refusal) }
+    {
+        if self.opens.is_empty() {
+            return Err(Refusal::Unbalanced);
+        }
+        self.opens.add(c)?;
+        self.behind_return = false;
+        Ok(())
+    }
+
+    /// Reads a section.
+    fn section(&mut self, text: &str) -> Result<(), Refusal>
+        ensures reads { IfOk result (λ _. (before : List Meaning) → Reads self.old before → Reads self.new (Section (lent text.entry) ∷ before)) }
+        ensures fine { IfOk result (λ _. (before : List Meaning) → Reads self.old before → IsFine before (Section (lent text.entry))) }
+        ensures refused { IfErr result (λ refusal. (before : List Meaning) → Reads self.old before → IsRefused before (Section (lent text.entry)) refusal) }
+    {
+        if self.opens.is_empty() {
+            return Err(Refusal::Unbalanced);
+        }
+        self.opens.add_section(text)?;
+        self.behind_return = false;
+        Ok(())
+    }
+}

@@ -1,11 +1,8 @@
 -- The values and decimals of an answer are small.
-use Rattle.std.proofs.Common.{◌≡◌, ℕ, suc, ◌+◌, ◌-◌, ◌*◌, ◌^◌, ◌<◌, ◌≤◌, ◌==◌, ◌&&◌, ℤ, pos, negsuc, neg_ℤ, List, [], ◌∷◌, length, Bool, true, false, Option, Some, None, IfSome, Ok, fold, map, option_map, option_and_then, codes, if◌then◌else◌, nat_lt, nat_le, refl, sym, ap, subst, arith, lit<}
+use Rattle.std.proofs.Common.{◌≡◌, ℕ, ◌^◌, ◌<◌, ◌≤◌, ℤ, pos, negsuc, List, [], ◌∷◌, Bool, true, false, Option, Some, None, IfSome, Result, Ok, Err, map, option_map, option_and_then, codes, if◌then◌else◌, nat_lt, nat_le, refl, sym, subst, arith}
 use Rattle.std.specs.Prelude.{unsigned_abs, All}
-use Rattle.std.specs.List.{list_all, filter_map, cons_option}
-use Rattle.std.specs.Char.{is_ascii_digit}
-use Rattle.std.proofs.Math.Nat.{pow-le-pow_right, mul-le-mul_left, pow-suc}
+use Rattle.std.specs.List.{filter_map, cons_option}
 use Rattle.std.proofs.lemmas.Bool.Decides.{nat_tests}
-use Rattle.std.proofs.lemmas.Int.{ints}
 use Rattle.std.proofs.lemmas.List.Elements.{All-nil, All-cons, All-head, All-tail}
 use Rattle.serde_json.specs.Data.{Data, Members}
 use Rattle.serde_json.specs.Find.{get, as_number, as_i64}
@@ -15,54 +12,28 @@ use Rattle.xc_report.specs.Names.{Name, text_at}
 use Rattle.xc_report.specs.Plain.{named_facts, data_answer}
 use Rattle.xc_report.specs.declared.plain.Plain.{Plain}
 use Rattle.xc_report.proofs.Answered.{made}
-use Rattle.xc_report.proofs.Conjunctions.{both}
-use Rattle.xc_report.specs.Values.{number_of, digits_value, plain_value, small, plain_decimals}
+use Rattle.std.proofs.lemmas.Bool.{and_parts}
+use Rattle.xc_report.specs.Values.{is_small_number, small_number, plain_value, small, decimals_of, plain_decimals}
+use Rattle.xc_decimal.specs.Numbers.{reading}
+use Rattle.xc_decimal.specs.Shortest.{Shortest}
+use Rattle.xc_decimal.specs.declared.decimal.DecimalFault.{DecimalFault}
 
--- a digit more
-digit_more : (n digit p : ℕ) → digit < 58 → (10 * n + (digit - 48) + 1) * p ≤ (n + 1) * (10 * p)
-digit_more n digit p h =
-    let next : 10 * n + (digit - 48) + 1 ≤ 10 * (n + 1) = omega arith in
-    omega (arith, mul-le-mul_left p next)
+record IsSmallNumber (d : Shortest) : Type 0 where
+  digits : unsigned_abs d.digits < 10 ^ 12
+  places : d.places ≤ 6
 
-digit_high : (c : ℕ) → is_ascii_digit c ≡ true → c < 58
-digit_high c h = grind (arith, nat_tests)
+small_tested : (d : Shortest) (b : Bool) → is_small_number d ≡ b → IfSome (if b then Some d else None) IsSmallNumber
+small_tested d true e =
+    let parts = and_parts (nat_lt (unsigned_abs d.digits) (10 ^ 12)) (nat_le d.places 6) e in
+    record { digits = grind (arith, nat_tests); places = grind (arith, nat_tests) }
+small_tested d false e = tt
 
--- digits spell a number below the power of ten of their count
-spelled : (digits : List ℕ) (n : ℕ) → list_all is_ascii_digit digits ≡ true → fold (λ n digit. 10 * n + (digit - 48)) n digits < (n + 1) * 10 ^ length digits
-spelled [] n all = omega arith
-spelled (digit ∷ digits) n all =
-    let parts = both (is_ascii_digit digit) (list_all is_ascii_digit digits) all in
-    let rest = spelled digits (10 * n + (digit - 48)) parts.1 in
-    let more : (n + 1) * 10 ^ suc (length digits) ≡ (n + 1) * (10 ^ length digits * 10) = ap (λ p. (n + 1) * p) (pow-suc 10 (length digits)) in
-    omega (arith, rest, more, digit_more n digit (10 ^ length digits) (digit_high digit parts.0))
+small_read : (r : Result Shortest DecimalFault) → IfSome (small_number r) IsSmallNumber
+small_read (Ok d) = small_tested d _ refl
+small_read (Err fault) = tt
 
-spelled_small : (digits : List ℕ) → list_all is_ascii_digit digits ≡ true → length digits ≤ 12 → number_of digits < 10 ^ 12
-spelled_small digits all few = omega (arith, spelled digits 0 all, pow-le-pow_right {n = 10} (lit< tt) few)
-
-small_if : (digits : List ℕ) (b : Bool) → (nat_lt 0 (length digits) && nat_le (length digits) 12 && list_all is_ascii_digit digits) ≡ b → IfSome (if b then Some (number_of digits) else None) (λ n. n < 10 ^ 12)
-small_if digits false e = tt
-small_if digits true e =
-    let parts = both (nat_lt 0 (length digits) && nat_le (length digits) 12) (list_all is_ascii_digit digits) e in
-    let counted = both (nat_lt 0 (length digits)) (nat_le (length digits) 12) parts.0 in
-    spelled_small digits parts.1 (grind (arith, nat_tests))
-
-small_digits : (digits : List ℕ) → IfSome (digits_value digits) (λ n. n < 10 ^ 12)
-small_digits digits = small_if digits _ refl
-
-signed_small : (o : Option ℕ) → IfSome o (λ n. n < 10 ^ 12) → IfSome (option_map (λ n. neg_ℤ (pos n)) o) (λ v. unsigned_abs v < 10 ^ 12)
-signed_small None h = tt
-signed_small (Some n) h = omega (arith, ints, h)
-
-unsigned_small : (o : Option ℕ) → IfSome o (λ n. n < 10 ^ 12) → IfSome (option_map (λ n. pos n) o) (λ v. unsigned_abs v < 10 ^ 12)
-unsigned_small None h = tt
-unsigned_small (Some n) h = h
-
-small_value : (text : List ℕ) → IfSome (plain_value text) (λ v. unsigned_abs v < 10 ^ 12)
-small_value [] = tt
-small_value (c ∷ rest) = elim (c == 45) as (λ b. IfSome (if b then option_map (λ n. neg_ℤ (pos n)) (digits_value rest) else option_map (λ n. pos n) (digits_value (c ∷ rest))) (λ v. unsigned_abs v < 10 ^ 12)) [
-  | true ↦ signed_small (digits_value rest) (small_digits rest)
-  | false ↦ unsigned_small (digits_value (c ∷ rest)) (small_digits (c ∷ rest))
-]
+small_value : (text : List ℕ) → IfSome (plain_value text) IsSmallNumber
+small_value text = small_read (reading text)
 
 small_up : (n : ℕ) (b : Bool) → nat_le n 6 ≡ b → IfSome (if b then Some (pos n) else None) (λ d. unsigned_abs d ≤ 6)
 small_up n true e = grind (arith, nat_tests)
@@ -85,17 +56,29 @@ IfSome-map : {A B : Type 0} (P : A → Type 0) (Q : B → Type 0) (f : A → B) 
 IfSome-map P Q f None each h = tt
 IfSome-map P Q f (Some a) each h = each a h
 
-abbrev IsSmallContent : Content → Type 0
-IsSmallContent content = (unsigned_abs content.value < 10 ^ 12) × (unsigned_abs content.decimals ≤ 6)
+-- what holds of decimals that are there
+abbrev AreFew : Option ℤ → Type 0
+AreFew decimals = IfSome decimals (λ d. unsigned_abs d ≤ 6)
 
-small_parts : (key : Option Key) (value : Option ℤ) (decimals : Option ℤ) → IfSome value (λ v. unsigned_abs v < 10 ^ 12) → IfSome decimals (λ d. unsigned_abs d ≤ 6) → IfSome (parts_content key value decimals) IsSmallContent
+few_there : (o : Option ℤ) → IfSome o (λ d. unsigned_abs d ≤ 6) → IfSome (option_map Some o) AreFew
+few_there None h = tt
+few_there (Some d) h = h
+
+few_decimals : (o : Option Data) → IfSome (decimals_of o) AreFew
+few_decimals None = tt
+few_decimals (Some decimals) = few_there (option_and_then small (option_and_then as_i64 (as_number decimals))) (IfSome-and_then (λ d. unsigned_abs d ≤ 6) small (option_and_then as_i64 (as_number decimals)) small_place)
+
+abbrev IsSmallContent : Content → Type 0
+IsSmallContent content = IsSmallNumber content.value × AreFew content.decimals
+
+small_parts : (key : Option Key) (value : Option Shortest) (decimals : Option (Option ℤ)) → IfSome value IsSmallNumber → IfSome decimals AreFew → IfSome (parts_content key value decimals) IsSmallContent
 small_parts None value decimals v d = tt
 small_parts (Some key) None decimals v d = tt
 small_parts (Some key) (Some value) None v d = tt
 small_parts (Some key) (Some value) (Some decimals) v d = (v, d)
 
 small_content : (namespaces fact : Data) → IfSome (content_of namespaces fact) IsSmallContent
-small_content namespaces fact = small_parts _ (value_of fact) (plain_decimals fact) (IfSome-and_then (λ v. unsigned_abs v < 10 ^ 12) plain_value (text_at (codes "value") fact) small_value) (IfSome-and_then (λ d. unsigned_abs d ≤ 6) small (option_and_then as_i64 (option_and_then as_number (get (codes "decimals") fact))) small_place)
+small_content namespaces fact = small_parts _ (value_of fact) (plain_decimals fact) (IfSome-and_then IsSmallNumber plain_value (text_at (codes "value") fact) small_value) (few_decimals (get (codes "decimals") fact))
 
 abbrev IsSmallNamed : Named → Type 0
 IsSmallNamed fact = IsSmallContent fact.stated.content
@@ -114,9 +97,12 @@ All-filter_map : {X Y : Type 0} (P : Y → Type 0) (h : X → Option Y) → ((x 
 All-filter_map P h each [] = All-nil P
 All-filter_map P h each (x ∷ xs) = All-cons_option P (h x) (filter_map h xs) (each x) (All-filter_map P h each xs)
 
+plain_amount : (keys : List Key) (fact : Named) → IsSmallNamed fact → IsPlainAmount (numbered keys fact)
+plain_amount keys fact h = record { digits = h.0.digits; places = h.0.places; decimals = h.1 }
+
 small_numbered : (keys : List Key) (facts : List Named) → All IsSmallNamed facts → All IsPlainAmount (map (numbered keys) facts)
 small_numbered keys [] all = All-nil IsPlainAmount
-small_numbered keys (fact ∷ facts) all = All-cons IsPlainAmount (numbered keys fact) (map (numbered keys) facts) (All-head IsSmallNamed fact facts all) (small_numbered keys facts (All-tail IsSmallNamed fact facts all))
+small_numbered keys (fact ∷ facts) all = All-cons IsPlainAmount (numbered keys fact) (map (numbered keys) facts) (plain_amount keys fact (All-head IsSmallNamed fact facts all)) (small_numbered keys facts (All-tail IsSmallNamed fact facts all))
 
 -- the amounts of plain facts are small
 pub plain_amounts : (namespaces : Data) (names : List Name) (facts : Members) → All IsPlainAmount (plain_facts (named_facts namespaces names facts))

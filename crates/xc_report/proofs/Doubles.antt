@@ -1,5 +1,5 @@
 -- A fact has a double where the first fact of its data point stands before it.
-use Rattle.std.proofs.Common.{◌≡◌, ◌+◌, ◌≤◌, ◌||◌, ◌==◌, nat_lt, ℕ, zero, suc, List, [], ◌∷◌, Bool, true, false, length, map, take, cond, not, refl, sym, ap, ◌∙◌, arith}
+use Rattle.std.proofs.Common.{◌≡◌, ◌+◌, ◌≤◌, ◌||◌, ◌&&◌, ◌==◌, nat_lt, ℕ, zero, suc, List, [], ◌∷◌, Bool, true, false, length, map, take, cond, not, refl, sym, ap, ◌∙◌, arith}
 use Rattle.std.specs.List.{list_any, position_or_len}
 use Rattle.std.specs.Ordering.{nat_cmp, is_eq, ordering_then}
 use Rattle.std.specs.declared.cmp.Ordering.{Ordering}
@@ -9,7 +9,8 @@ use Rattle.xc_frac.specs.Firsts.{first_or_len}
 use Rattle.xc_report.specs.Views.{point_of}
 use Rattle.xc_report.specs.declared.plain.PlainFact.{PlainFact}
 use Rattle.xc_report.specs.declared.points.Point as lent_point
-use Rattle.xc_report.proofs.Orders.{is_eq-then, position_or_len_congr, position_or_len-map}
+use Rattle.xc_model.proofs.Positions.{position_or_len_congr, position_or_len-map}
+use Rattle.xc_report.proofs.Orders.{is_eq-then}
 
 -- by concept, and then by key
 abbrev pub point_cmp : lent_point.Point → lent_point.Point → Ordering
@@ -18,8 +19,11 @@ point_cmp a b = ordering_then (nat_cmp a.node b.node) (nat_cmp a.key b.key)
 is_eq-nat_cmp : (m n : ℕ) → is_eq (nat_cmp m n) ≡ (m == n)
 is_eq-nat_cmp m n = grind (arith, nat_tests)
 
+pub is_eq-point : (a b : lent_point.Point) → is_eq (point_cmp a b) ≡ ((a.node == b.node) && (a.key == b.key))
+is_eq-point a b = rw (is_eq-then (nat_cmp a.node b.node) (nat_cmp a.key b.key), is_eq-nat_cmp a.node b.node, is_eq-nat_cmp a.key b.key) refl
+
 is_eq-point_cmp : (a b : PlainFact) → is_eq (point_cmp (point_of a) (point_of b)) ≡ is_same_point a b
-is_eq-point_cmp a b = rw (is_eq-then (nat_cmp a.node b.node) (nat_cmp a.key b.key), is_eq-nat_cmp a.node b.node, is_eq-nat_cmp a.key b.key) refl
+is_eq-point_cmp a b = is_eq-point (point_of a) (point_of b)
 
 none_below : (n : ℕ) → nat_lt n 0 ≡ false
 none_below n = grind (arith, nat_tests)

@@ -8,7 +8,7 @@ use Rattle.std.proofs.lemmas.Slice.Eq.{bytes_eq-Decides}
 use Rattle.xc_report.specs.Names.{Name, is_same_name}
 use Rattle.xc_report.specs.Keys.{Key, is_same_key}
 use Rattle.xc_report.specs.Facts.{key_number}
-use Rattle.xc_report.proofs.Conjunctions.{both}
+use Rattle.std.proofs.lemmas.Bool.{and_parts}
 
 bytes_same : (a b : List ℕ) → bytes_eq a b ≡ true → a ≡ b
 bytes_same a b = (bytes_eq-Decides a b).0
@@ -18,16 +18,16 @@ bytes_self a = (bytes_eq-Decides a a).1 refl
 
 name_same : (a b : Name) → is_same_name a b ≡ true → a ≡ b
 name_same a b e =
-    let parts = both (bytes_eq a.uri b.uri) (bytes_eq a.local b.local) e in
-    λ i. record { uri = bytes_same a.uri b.uri parts.0 i; local = bytes_same a.local b.local parts.1 i }
+    let parts = and_parts (bytes_eq a.local b.local) (bytes_eq a.uri b.uri) e in
+    λ i. record { uri = bytes_same a.uri b.uri parts.1 i; local = bytes_same a.local b.local parts.0 i }
 
 name_self : (a : Name) → is_same_name a a ≡ true
-name_self a = rw (bytes_self a.uri, bytes_self a.local) refl
+name_self a = rw (bytes_self a.local, bytes_self a.uri) refl
 
 key_same : (a b : Key) → is_same_key a b ≡ true → a ≡ b
 key_same a b e =
-    let parts = both (is_same_name a.entity b.entity && bytes_eq a.period b.period) (is_same_name a.unit b.unit) e in
-    let front = both (is_same_name a.entity b.entity) (bytes_eq a.period b.period) parts.0 in
+    let parts = and_parts (is_same_name a.entity b.entity && bytes_eq a.period b.period) (is_same_name a.unit b.unit) e in
+    let front = and_parts (is_same_name a.entity b.entity) (bytes_eq a.period b.period) parts.0 in
     λ i. record { entity = name_same a.entity b.entity front.0 i; period = bytes_same a.period b.period front.1 i; unit = name_same a.unit b.unit parts.1 i }
 
 key_self : (a : Key) → is_same_key a a ≡ true

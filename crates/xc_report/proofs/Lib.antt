@@ -2,8 +2,7 @@ pub mod Json
 pub mod Members
 pub mod Orders
 pub mod Doubles
-pub mod Conjunctions
-pub mod Splits
+pub mod FactPlaces
 pub mod OnePoint
 pub mod KeyNumbers
 pub mod NotPlain

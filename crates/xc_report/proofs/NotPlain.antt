@@ -9,7 +9,7 @@ use Rattle.xc_report.specs.Plain.{namespaces_of, facts_of, names_of, are_names, 
 use Rattle.xc_report.specs.Laws.{IsPlainFact, IsPlainReport}
 use Rattle.xc_report.specs.declared.plain.PlainFact.{PlainFact}
 use Rattle.xc_report.specs.declared.plain.PlainFault.TheVariants.{NotYet}
-use Rattle.xc_report.proofs.Conjunctions.{both}
+use Rattle.std.proofs.lemmas.Bool.{and_parts}
 use Rattle.xc_report.proofs.Answered.{test_answer}
 
 -- a premise and what follows from it, as a test
@@ -23,7 +23,7 @@ test_follows false b h = refl
 
 fact_from_test : (namespaces : Data) (nodes : List (List ℕ)) (fact : Data) → is_plain_fact namespaces (names_of namespaces nodes) fact ≡ true → IsPlainFact namespaces nodes fact
 fact_from_test namespaces nodes fact e =
-    let parts = both (is_some (concept_of namespaces fact)) _ e in
+    let parts = and_parts (is_some (concept_of namespaces fact)) _ e in
     record { concept = parts.0; content = follows _ (is_some (content_of namespaces fact)) parts.1 }
 
 test_from_fact : (namespaces : Data) (nodes : List (List ℕ)) (fact : Data) → IsPlainFact namespaces nodes fact → is_plain_fact namespaces (names_of namespaces nodes) fact ≡ true
@@ -31,7 +31,7 @@ test_from_fact namespaces nodes fact plain = ap (λ b. b && (not (is_some (node_
 
 report_from_test : (nodes : List (List ℕ)) (report namespaces : Data) (facts : Members) → namespaces_of report ≡ Some namespaces → facts_of report ≡ Some facts → is_plain namespaces nodes facts ≡ true → IsPlainReport nodes report namespaces facts
 report_from_test nodes report namespaces facts declares lists e =
-    let parts = both (are_names namespaces nodes) (are_plain namespaces (names_of namespaces nodes) facts) e in
+    let parts = and_parts (are_names namespaces nodes) (are_plain namespaces (names_of namespaces nodes) facts) e in
     record {
       declares = declares;
       lists = lists;

@@ -1,5 +1,5 @@
 -- The order of names and keys tells apart what differs, so their first places are those of equal parts.
-use Rattle.std.proofs.Common.{◌≡◌, ◌+◌, ◌&&◌, ℕ, List, [], ◌∷◌, Bool, map, refl, sym, ap, ◌∙◌}
+use Rattle.std.proofs.Common.{◌≡◌, ◌&&◌, List, map, refl, sym, ◌∙◌}
 use Rattle.std.specs.List.{position_from, position_or_len}
 use Rattle.std.specs.Ordering.{nat_cmp, is_eq, ordering_then}
 use Rattle.std.specs.Cmp.Lexicographic.{slice_cmp}
@@ -13,11 +13,11 @@ use Rattle.xc_report.specs.Keys.{is_same_key}
 use Rattle.xc_report.specs.Views.{name_view, key_view}
 use Rattle.xc_report.specs.declared.names.Name as lent_name
 use Rattle.xc_report.specs.declared.keys.Key as lent_key
-use Rattle.xc_frac.proofs.FirstPlaces.{position_from_congr}
+use Rattle.xc_model.proofs.Positions.{position_from_congr, position_from-map, position_or_len_congr, position_or_len-map}
 
--- by URI, and then by local part
+-- by local part, and then by URI
 abbrev pub name_cmp : lent_name.Name → lent_name.Name → Ordering
-name_cmp a b = ordering_then (slice_cmp nat_cmp a.uri.now b.uri.now) (slice_cmp nat_cmp a.local.now b.local.now)
+name_cmp a b = ordering_then (slice_cmp nat_cmp a.local.now b.local.now) (slice_cmp nat_cmp a.uri.now b.uri.now)
 
 -- by entity, period and unit
 abbrev pub key_cmp : lent_key.Key → lent_key.Key → Ordering
@@ -29,7 +29,7 @@ is_eq-then Equal p = refl
 is_eq-then Greater p = refl
 
 is_eq-name_cmp : (a b : lent_name.Name) → is_eq (name_cmp a b) ≡ is_same_name (name_view a) (name_view b)
-is_eq-name_cmp a b = rw (is_eq-then (slice_cmp nat_cmp a.uri.now b.uri.now) (slice_cmp nat_cmp a.local.now b.local.now), is_eq-slice_cmp a.uri.now b.uri.now, is_eq-slice_cmp a.local.now b.local.now) refl
+is_eq-name_cmp a b = rw (is_eq-then (slice_cmp nat_cmp a.local.now b.local.now) (slice_cmp nat_cmp a.uri.now b.uri.now), is_eq-slice_cmp a.local.now b.local.now, is_eq-slice_cmp a.uri.now b.uri.now) refl
 
 is_eq-key_cmp : (a b : lent_key.Key) → is_eq (key_cmp a b) ≡ is_same_key (key_view a) (key_view b)
 is_eq-key_cmp a b =
@@ -37,17 +37,6 @@ is_eq-key_cmp a b =
     let unit = name_cmp a.unit b.unit in
     rw (is_eq-then (name_cmp a.entity b.entity) (ordering_then period unit), is_eq-name_cmp a.entity b.entity, is_eq-then period unit, is_eq-slice_cmp a.period.now b.period.now, is_eq-name_cmp a.unit b.unit)
     (sym (and_assoc (is_same_name (name_view a.entity) (name_view b.entity)) (bytes_eq a.period.now b.period.now) (is_same_name (name_view a.unit) (name_view b.unit))))
-
-position_from-map : {X Y : Type 0} (f : X → Y) (t : Y → Bool) (n : ℕ) (xs : List X) → position_from t n (map f xs) ≡ position_from (λ x. t (f x)) n xs
-position_from-map f t n [] = refl
-position_from-map f t n (x ∷ xs) = rw (position_from-map f t (n + 1) xs) refl
-
-pub position_or_len_congr : {X : Type 0} (t u : X → Bool) (xs : List X) → ((x : X) → t x ≡ u x) → position_or_len t xs ≡ position_or_len u xs
-position_or_len_congr t u xs same = ap (λ v. position_or_len v xs) (λ i x. same x i)
-
-pub position_or_len-map : {X Y : Type 0} (f : X → Y) (t : Y → Bool) (xs : List X) → position_or_len t (map f xs) ≡ position_or_len (λ x. t (f x)) xs
-position_or_len-map f t [] = refl
-position_or_len-map f t (x ∷ xs) = rw (position_or_len-map f t xs) refl
 
 -- the first name by the order is the first with both parts
 pub first_name : (name : lent_name.Name) (names : List lent_name.Name) → position_from (λ other. is_eq (name_cmp name other)) 0 names ≡ position_from (is_same_name (name_view name)) 0 (map name_view names)

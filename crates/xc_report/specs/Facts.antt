@@ -4,6 +4,7 @@ use Rattle.std.specs.List.{list_any, enumerate_from, position_from, position_or_
 use Rattle.std.specs.List.Sorted.{IsStrictlySortedBy}
 use Rattle.std.specs.Ordering.{nat_cmp}
 use Rattle.std.specs.Cmp.Lexicographic.{slice_cmp}
+use Rattle.xc_decimal.specs.Shortest.{Shortest}
 use Rattle.serde_json.specs.Data.{Data}
 use Rattle.serde_json.specs.Find.{get}
 use Rattle.xc_report.specs.Names.{Name, text_at, expanded, is_same_name}
@@ -14,8 +15,8 @@ use Rattle.xc_report.specs.declared.plain.PlainFact.{PlainFact}
 -- what a plain fact says of its concept
 pub record Content : Type 0 where
   pub key : Key
-  pub value : ℤ
-  pub decimals : ℤ
+  pub value : Shortest
+  pub decimals : Option ℤ
 
 -- what a plain fact says, and the place of its concept among the names
 pub record Stated : Type 0 where
@@ -44,11 +45,11 @@ abbrev pub node_of : Data → List Name → Data → Option ℕ
 node_of namespaces names fact = option_and_then (place_of names) (concept_of namespaces fact)
 
 -- the value of a fact
-abbrev pub value_of : Data → Option ℤ
+abbrev pub value_of : Data → Option Shortest
 value_of fact = option_and_then plain_value (text_at (codes "value") fact)
 
 -- the content of a key, a value and decimals, where each is there
-abbrev pub parts_content : Option Key → Option ℤ → Option ℤ → Option Content
+abbrev pub parts_content : Option Key → Option Shortest → Option (Option ℤ) → Option Content
 parts_content (Some key) (Some value) (Some decimals) = Some (record { key = key; value = value; decimals = decimals })
 parts_content _ _ _ = None
 
@@ -102,7 +103,7 @@ key_number keys key = position_or_len (is_same_key key) keys
 
 -- a plain fact, whose key has this number
 abbrev pub with_number : ℕ → Named → PlainFact
-with_number key fact = record { id = fact.id; node = fact.stated.node; key = key; value = fact.stated.content.value; decimals = Some fact.stated.content.decimals }
+with_number key fact = record { id = fact.id; node = fact.stated.node; key = key; value = fact.stated.content.value; decimals = fact.stated.content.decimals }
 
 -- a plain fact, with its key's number among the keys of all
 abbrev pub numbered : List Key → Named → PlainFact
@@ -120,10 +121,16 @@ is_same_point a b = (a.node == b.node) && (a.key == b.key)
 abbrev pub has_double : List PlainFact → ℕ × PlainFact → Bool
 has_double facts at = list_any (is_same_point at.1) (take at.0 facts)
 
+-- the first fact whose concept is that of this node, and that has this key
+abbrev pub fact_at : List PlainFact → ℕ → ℕ → Option PlainFact
+fact_at facts node key = find (λ fact. (node == fact.node) && (key == fact.key)) facts
+
 -- the id of the first fact whose data point an earlier one has
 abbrev pub first_double : List PlainFact → Option (List ℕ)
 first_double facts = option_map (λ at. at.1.id) (find (has_double facts) (enumerate_from 0 facts))
 
--- a value of fewer than 13 digits, and decimals from -6 to 6
-abbrev pub IsPlainAmount : PlainFact → Type 0
-IsPlainAmount fact = (unsigned_abs fact.value < 10 ^ 12) × IfSome fact.decimals (λ d. unsigned_abs d ≤ 6)
+-- a value of digits below 10^12 in magnitude and at most 6 places, and decimals from -6 to 6
+pub record IsPlainAmount (fact : PlainFact) : Type 0 where
+  pub digits : unsigned_abs fact.value.digits < 10 ^ 12
+  pub places : fact.value.places ≤ 6
+  pub decimals : IfSome fact.decimals (λ d. unsigned_abs d ≤ 6)

@@ -1,18 +1,13 @@
 -- What follows from the definitions, in the words of reports.
 use Rattle.std.specs.Prelude.{◌≡◌, ◌↔◌, ℕ, List, Some, Ok, Err, All, AllPairs, Contains, IsSome}
-use Rattle.std.specs.Str.{IsUtf8}
 use Rattle.serde_json.specs.Data.{Data, Members}
-use Rattle.xc_report.specs.Names.{IsJoined, split, expanded}
+use Rattle.xc_report.specs.Names.{expanded}
 use Rattle.xc_report.specs.Keys.{Key, member_list}
 use Rattle.xc_report.specs.Facts.{key_number, concept_of, content_of, node_of}
 use Rattle.xc_report.specs.Plain.{json_of, names_of, namespaces_of, facts_of, plain_answer}
 use Rattle.xc_report.specs.declared.plain.PlainFact.{PlainFact}
 use Rattle.xc_report.specs.declared.plain.Plain.{Plain}
 use Rattle.xc_report.specs.declared.plain.PlainFault.TheVariants.{NotYet}
-
--- a text splits into a prefix and a local part exactly where it is these two plain names, joined by a colon
-abbrev pub SplitsWhereJoined : Type 0
-SplitsWhereJoined = (text prefix local : List ℕ) → IsUtf8 text → (split text ≡ Some (prefix, local)) ↔ IsJoined text prefix local
 
 -- two facts of one concept, with one key
 abbrev pub IsSamePoint : PlainFact → PlainFact → Type 0

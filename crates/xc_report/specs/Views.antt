@@ -1,6 +1,4 @@
 -- What the names, keys and contents that the report lends are.
-use Rattle.std.specs.Prelude.{List, ℕ}
-use Rattle.std.specs.Borrow.{Bor}
 use Rattle.xc_report.specs.Names.{Name}
 use Rattle.xc_report.specs.Keys.{Key}
 use Rattle.xc_report.specs.Facts.{Content, Stated, Named}
@@ -11,10 +9,6 @@ use Rattle.xc_report.specs.declared.facts.Stated as lent_stated
 use Rattle.xc_report.specs.declared.facts.Named as lent_named
 use Rattle.xc_report.specs.declared.points.Point as lent_point
 use Rattle.xc_report.specs.declared.plain.PlainFact.{PlainFact}
-
--- two lent texts
-abbrev pub pair_view : Bor (List ℕ) × Bor (List ℕ) → List ℕ × List ℕ
-pair_view p = (p.0.now, p.1.now)
 
 -- a lent name
 abbrev pub name_view : lent_name.Name → Name

@@ -12,14 +12,15 @@ use crate::plain::PlainFault;
 use crate::values::{plain_decimals, plain_value};
 use serde_json::{Map, Value};
 use std::alloc::Global;
+use xc_decimal::Decimal;
 use xc_frac::Firsts;
 
 /// What a plain fact says of its concept.
 #[derive(Clone, Copy)]
 pub struct Content<'a> {
     pub key: Key<'a>,
-    pub value: i64,
-    pub decimals: i32,
+    pub value: Decimal,
+    pub decimals: Option<i32>,
 }
 
 /// What a plain fact says, with the place of its concept among the names.
@@ -50,10 +51,13 @@ pub fn read_facts<'a>(
     let mut facts = Vec::new(alloc);
     for (id, fact) in members {
         if let Some(stated) = read_fact(namespaces, names, fact)? {
-            facts.push(Named {
+            let named = Named {
                 id: id.as_str(),
                 stated,
-            })?;
+            };
+            if facts.push(named).is_err() {
+                return Err(PlainFault::Memory);
+            }
         }
     }
     Ok(facts)
@@ -119,7 +123,7 @@ fn dimensions_of(fact: &Value) -> Option<&Value>
     fact.get("dimensions")
 }
 
-fn value_of(fact: &Value) -> Option<i64>
+fn value_of(fact: &Value) -> Option<Decimal>
     ensures { result ≡ value_of (view fact.now) }
 {
     match text_at(fact, "value") {

@@ -1,12 +1,7 @@
 //! What the definitions of this crate say, in the words of reports.
 //!
 //! Each function has an empty body: its contract is the law.
-ghost use Rattle.xc_report.specs.Laws.{SplitsWhereJoined, HasOneFactAPoint, NumbersTellKeys, NotYetWhereNotPlain};
-
-/// A text splits exactly where it is two plain names joined by a colon, so in one way at most.
-pub fn splits_where_joined()
-    ensures { SplitsWhereJoined }
-{}
+ghost use Rattle.xc_report.specs.Laws.{HasOneFactAPoint, NumbersTellKeys, NotYetWhereNotPlain};
 
 /// No two facts of an answer have one concept and one key.
 pub fn has_one_fact_a_point()

@@ -1,11 +1,12 @@
-//! Reports in xBRL-JSON: names, and the facts of plain reports.
+//! Reports in xBRL-JSON: the facts of plain reports.
 //!
 //! A report is plain for some concepts where each of their facts has an entity, an instant, a unit
-//! of one measure and no other dimension, a whole number of at most 12 digits as its value, and
-//! decimals from -6 to 6.
+//! of one measure and no other dimension, a decimal number of digits below 10^12 and at most 6 places
+//! as its value, and decimals from -6 to 6 or none.
 #![tactic(auto)]
 
 mod facts;
+mod index;
 mod keys;
 pub mod laws;
 mod names;
@@ -16,7 +17,7 @@ mod plain;
 mod points;
 mod values;
 
-pub use names::split;
+pub use index::FactIndex;
 pub use plain::{Plain, PlainFact, PlainFault, read_plain};
 
 #[cfg(test)]

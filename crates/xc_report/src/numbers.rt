@@ -1,5 +1,5 @@
 // The numbers of keys.
-ghost use Rattle.std.specs.Prelude.{◌≡◌, map, IfOk, IfErr};
+ghost use Rattle.std.specs.Prelude.{◌≡◌, ◌<◌, length, get_or, map, IfOk, IfErr};
 ghost use Rattle.xc_report.specs.Facts.{key_number, keys_of, with_number, plain_facts};
 ghost use Rattle.xc_report.specs.Views.{key_view, named_view};
 ghost use Rattle.xc_report.specs.declared.plain.PlainFault.{PlainFault};
@@ -17,8 +17,8 @@ pub fn plain_facts<'a>(alloc: Global, named: &[Named<'a>]) -> Result<Vec<PlainFa
 {
     let keys = Firsts::of(alloc, keys_of(alloc, named)?)?;
     let mut facts = Vec::new(alloc);
-    for fact in named {
-        let key = key_number(&keys, &fact.stated.content.key);
+    for (at, fact) in named.iter().enumerate() {
+        let key = key_number(&keys, at, &fact.stated.content.key);
         facts.push(with_number(alloc, key, fact)?)?;
     }
     Ok(facts)
@@ -35,10 +35,13 @@ fn keys_of<'a>(alloc: Global, named: &[Named<'a>]) -> Result<Vec<Key<'a>>, Plain
     Ok(keys)
 }
 
-fn key_number<'a>(keys: &Firsts<Key<'a>>, key: &Key<'a>) -> u64
+// The number of the key at this place, which was found when the keys were gathered.
+fn key_number<'a>(keys: &Firsts<Key<'a>>, at: usize, key: &Key<'a>) -> u64
+    requires within { at < length keys.now }
+    requires here { get_or (map key_view keys.now) at (key_view key.now) ≡ key_view key.now }
     ensures { result ≡ key_number (map key_view keys.now) (key_view key.now) }
 {
-    keys.first_or_len(key)
+    keys.firsts()[at]
 }
 
 fn with_number(alloc: Global, key: u64, fact: &Named<'_>) -> Result<PlainFact, PlainFault>
@@ -50,6 +53,6 @@ fn with_number(alloc: Global, key: u64, fact: &Named<'_>) -> Result<PlainFact, P
         node: fact.stated.node,
         key,
         value: fact.stated.content.value,
-        decimals: Some(fact.stated.content.decimals),
+        decimals: fact.stated.content.decimals,
     })
 }

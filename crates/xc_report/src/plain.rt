@@ -12,6 +12,7 @@ use crate::parts::{facts_of, namespaces_of, read_json};
 use crate::points::first_double;
 use serde_json::{Map, Value};
 use std::alloc::{AllocError, AllocFailed, Global};
+use xc_decimal::Decimal;
 use xc_frac::{Firsts, Items, Text};
 
 /// A fact of a named concept.
@@ -23,9 +24,9 @@ pub struct PlainFact {
     pub node: u64,
     /// One number for equal keys: the place of the first fact with this key.
     pub key: u64,
-    /// A whole number of at most 12 digits.
-    pub value: i64,
-    /// From -6 to 6.
+    /// Of digits below 10^12 in magnitude, and at most 6 places.
+    pub value: Decimal,
+    /// From -6 to 6; none where the value is exact.
     pub decimals: Option<i32>,
 }
 

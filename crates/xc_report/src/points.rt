@@ -7,7 +7,7 @@ ghost use Rattle.xc_report.specs.declared.plain.PlainFault.{PlainFault};
 
 use crate::plain::{PlainFact, PlainFault};
 use std::alloc::Global;
-use xc_frac::{Firsts, Text};
+use xc_frac::{Firsts, Memory, Text};
 
 /// A data point: the place of a concept among the names, and the number of a key.
 #[derive(Clone, Copy, PartialEq, Eq, PartialOrd, Ord)]
@@ -38,9 +38,9 @@ fn has_double(points: &Firsts<Point>, at: usize, fact: &PlainFact) -> bool
     points.first_or_len(&point_of(fact)) < at as u64
 }
 
-fn points_of(alloc: Global, facts: &[PlainFact]) -> Result<Vec<Point>, PlainFault>
-    ensures ok { IfOk result (λ points. points.items ≡ map point_of facts.now) }
-    ensures err { IfErr result (λ e. e ≡ PlainFault.Memory) }
+/// The data points of facts, in their order.
+pub fn points_of(alloc: Global, facts: &[PlainFact]) -> Result<Vec<Point>, Memory>
+    ensures { IfOk result (λ points. points.items ≡ map point_of facts.now) }
 {
     let mut points = Vec::new(alloc);
     for fact in facts {
@@ -49,7 +49,8 @@ fn points_of(alloc: Global, facts: &[PlainFact]) -> Result<Vec<Point>, PlainFaul
     Ok(points)
 }
 
-fn point_of(fact: &PlainFact) -> Point
+/// The data point of a fact.
+pub fn point_of(fact: &PlainFact) -> Point
     ensures { result ≡ point_of fact.now }
 {
     Point {

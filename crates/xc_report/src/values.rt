@@ -1,34 +1,52 @@
 // The values, decimals and moments of plain facts.
-ghost use Rattle.std.specs.Prelude.{◌≡◌, ◌<◌, ◌^◌, codes, IfSome};
+ghost use Rattle.std.specs.Prelude.{◌≡◌, codes, option_and_then};
+ghost use Rattle.serde_json.specs.Find.{as_number, as_i64};
 ghost use Rattle.serde_json.specs.View.{view};
-ghost use Rattle.xc_report.specs.Values.{digits_value, plain_value, plain_decimals, small, fits_place, fits_places, has_form, is_moment};
+ghost use Rattle.xc_report.specs.Values.{is_small_number, plain_value, plain_decimals, small, fits_place, fits_places, has_form, is_moment};
 
 use serde_json::Value;
+use xc_decimal::{Decimal, read_decimal};
 
 // How a plain period is written, with `d` for each digit.
 const MOMENT: &str = "dddd-dd-ddT00:00:00";
 
-/// The number of a text of 1 to 12 digits, which `-` may precede.
-pub fn plain_value(text: &str) -> Option<i64>
+/// The decimal number of a text, where its digits are below 10^12 in magnitude and its places at most 6.
+pub fn plain_value(text: &str) -> Option<Decimal>
     ensures { result ≡ plain_value text.now }
 {
-    match text.as_bytes() {
-        [b'-', digits @ ..] => match digits_value(digits) {
-            Some(value) => Some(-(value as i64)),
-            None => None,
+    match read_decimal(text) {
+        Ok(value) => if is_small_number(value) {
+            Some(value)
+        } else {
+            None
         },
-        digits => match digits_value(digits) {
-            Some(value) => Some(value as i64),
-            None => None,
-        },
+        Err(_) => None,
     }
 }
 
-/// The number of the member `decimals` of a fact, where it is whole and from -6 to 6.
-pub fn plain_decimals(fact: &Value) -> Option<i32>
+fn is_small_number(number: Decimal) -> bool
+    ensures { result ≡ is_small_number number }
+{
+    number.digits().unsigned_abs() < 1_000_000_000_000 && number.places() <= 6
+}
+
+/// The decimals of a fact: none where the member is missing, or a whole number from -6 to 6.
+pub fn plain_decimals(fact: &Value) -> Option<Option<i32>>
     ensures { result ≡ plain_decimals (view fact.now) }
 {
-    match fact.get("decimals").and_then(Value::as_i64) {
+    match fact.get("decimals") {
+        Some(decimals) => match small_of(decimals) {
+            Some(decimals) => Some(Some(decimals)),
+            None => None,
+        },
+        None => Some(None),
+    }
+}
+
+fn small_of(decimals: &Value) -> Option<i32>
+    ensures { result ≡ option_and_then small (option_and_then as_i64 (as_number (view decimals.now))) }
+{
+    match decimals.as_i64() {
         Some(decimals) => small(decimals),
         None => None,
     }
@@ -39,23 +57,6 @@ pub fn is_moment(text: &str) -> bool
     ensures { result ≡ is_moment text.now }
 {
     has_form(MOMENT.as_bytes(), text.as_bytes())
-}
-
-fn digits_value(text: &[u8]) -> Option<u64>
-    ensures value { result ≡ digits_value text.now }
-    ensures bound { IfSome result (λ value. value < 10 ^ 12) }
-{
-    if text.is_empty() || text.len() > 12 {
-        return None;
-    }
-    let mut value: u64 = 0;
-    for byte in text {
-        if !byte.is_ascii_digit() {
-            return None;
-        }
-        value = 10 * value + u64::from(*byte - b'0');
-    }
-    Some(value)
 }
 
 fn small(decimals: i64) -> Option<i32>

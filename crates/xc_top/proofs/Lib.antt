@@ -1,6 +1,9 @@
+pub mod Added
+pub mod FewUnits
 pub mod Judged
 pub mod OneAnswer
 pub mod Ran
+pub mod Scaled
 pub mod Small
-pub mod Summed
 pub mod Sums
+pub mod Units

@@ -1,6 +1,7 @@
 -- Words and files have one answer.
 use Rattle.std.proofs.Common.{◌≡◌, ℕ, List, [], ◌∷◌, length, Bool, true, false, Option, Some, None, Result, Ok, Err, nat_lt, refl, sym, ap, ◌∙◌}
 use Rattle.std.specs.Prelude.{MatchBool}
+use Rattle.xc_interval.specs.declared.mode.Mode.{Mode}
 use Rattle.xc_io.specs.Shelf.{Files}
 use Rattle.xc_report.specs.Plain.{plain_answer}
 use Rattle.xc_report.specs.declared.plain.Plain.{Plain}
@@ -15,24 +16,24 @@ use Rattle.xc_top.specs.declared.status.Answer.{Answer}
 use Rattle.xc_top.specs.declared.verdict.Verdict.{Verdict}
 use Rattle.xc_top.specs.declared.verdict.Verdict.TheVariants.{Consistent, Inconsistent}
 
-one_verdict : (binding : SumBinding) (one other : Verdict) → IsVerdict binding one → IsVerdict binding other → one ≡ other
-one_verdict binding Consistent Consistent h k = refl
-one_verdict binding Consistent Inconsistent h k = absurd (k h)
-one_verdict binding Inconsistent Consistent h k = absurd (h k)
-one_verdict binding Inconsistent Inconsistent h k = refl
+one_verdict : (mode : Mode) (binding : SumBinding) (one other : Verdict) → IsVerdict mode binding one → IsVerdict mode binding other → one ≡ other
+one_verdict mode binding Consistent Consistent h k = refl
+one_verdict mode binding Consistent Inconsistent h k = absurd (k h)
+one_verdict mode binding Inconsistent Consistent h k = absurd (h k)
+one_verdict mode binding Inconsistent Inconsistent h k = refl
 
-one_verdicts : (bindings : List SumBinding) (one other : List Verdict) → AreVerdicts bindings one → AreVerdicts bindings other → one ≡ other
-one_verdicts [] [] [] h k = refl
-one_verdicts [] [] (y ∷ other) h k = absurd k
-one_verdicts [] (x ∷ one) other h k = absurd h
-one_verdicts (binding ∷ bindings) [] other h k = absurd h
-one_verdicts (binding ∷ bindings) (x ∷ one) [] h k = absurd k
-one_verdicts (binding ∷ bindings) (x ∷ one) (y ∷ other) h k = ap (λ v. v ∷ one) (one_verdict binding x y h.0 k.0) ∙ ap (λ vs. y ∷ vs) (one_verdicts bindings one other h.1 k.1)
+one_verdicts : (mode : Mode) (bindings : List SumBinding) (one other : List Verdict) → AreVerdicts mode bindings one → AreVerdicts mode bindings other → one ≡ other
+one_verdicts mode [] [] [] h k = refl
+one_verdicts mode [] [] (y ∷ other) h k = absurd k
+one_verdicts mode [] (x ∷ one) other h k = absurd h
+one_verdicts mode (binding ∷ bindings) [] other h k = absurd h
+one_verdicts mode (binding ∷ bindings) (x ∷ one) [] h k = absurd k
+one_verdicts mode (binding ∷ bindings) (x ∷ one) (y ∷ other) h k = ap (λ v. v ∷ one) (one_verdict mode binding x y h.0 k.0) ∙ ap (λ vs. y ∷ vs) (one_verdicts mode bindings one other h.1 k.1)
 
 one_findings : (sum : SumWords) (plain : Plain) (one other : Answer) → IsFindings sum plain one → IsFindings sum plain other → one ≡ other
 one_findings sum plain one other h k =
-    let answer : List Verdict → Answer = λ vs. make_answer (status_of vs) (findings_of (length plain.facts) (bindings_in sum plain) vs) in
-    h.is ∙ ap answer (one_verdicts (bindings_in sum plain) h.verdicts k.verdicts h.are k.are) ∙ sym k.is
+    let answer : List Verdict → Answer = λ vs. make_answer (status_of vs) (findings_of sum.mode (length plain.facts) (bindings_in sum plain) vs) in
+    h.is ∙ ap answer (one_verdicts sum.mode (bindings_in sum plain) h.verdicts k.verdicts h.are k.are) ∙ sym k.is
 
 one_of_report : (sum : SumWords) (read : Result Plain PlainFault) (one other : Answer) → IsReportAnswer sum read one → IsReportAnswer sum read other → one ≡ other
 one_of_report sum (Ok plain) one other h k = one_findings sum plain one other h k

@@ -3,10 +3,10 @@ use Rattle.std.proofs.Common.{◌==◌, ◌&&◌, ℕ, cond, List, [], ◌∷◌
 use Rattle.std.specs.Prelude.{All}
 use Rattle.std.specs.List.{filter_map, cons_option}
 use Rattle.std.proofs.lemmas.List.Elements.{All-nil, All-cons, All-head, All-tail}
-use Rattle.xc_report.specs.Facts.{IsPlainAmount}
+use Rattle.xc_report.specs.Facts.{IsPlainAmount, fact_at}
 use Rattle.xc_report.specs.declared.plain.PlainFact.{PlainFact}
-use Rattle.xc_top.specs.Bindings.{amount_of, fact_at, make_term, term_of, terms_of, with_terms, is_total, binding_of, bindings_of}
-use Rattle.xc_top.specs.Ends.{IsSmall, IsSmallTerm, IsSmallBinding}
+use Rattle.xc_top.specs.Bindings.{amount_of, make_term, term_of, terms_of, with_terms, is_total, binding_of, bindings_of}
+use Rattle.xc_top.specs.Small.{IsSmall, IsSmallTerm, IsSmallBinding}
 use Rattle.xc_top.specs.declared.bindings.Arc.{Arc}
 use Rattle.xc_top.specs.declared.bindings.Term.{Term}
 
@@ -24,7 +24,7 @@ IfSome-find P test [] all = tt
 IfSome-find P test (x ∷ xs) all = elim (test x) as (λ b. IfSome (cond b (Some x) (find test xs)) P) [ true ↦ All-head P x xs all | false ↦ IfSome-find P test xs (All-tail P x xs all) ]
 
 small_amount : (fact : PlainFact) → IsPlainAmount fact → IsSmall (amount_of fact)
-small_amount fact plain = record { value = plain.0; decimals = plain.1 }
+small_amount fact plain = record { digits = plain.digits; places = plain.places; decimals = plain.decimals }
 
 small_if_found : (negative : Bool) (found : Option PlainFact) → IfSome found IsPlainAmount → IfSome (option_map (make_term negative) found) IsSmallTerm
 small_if_found negative None plain = tt
@@ -33,7 +33,7 @@ small_if_found negative (Some fact) plain = small_amount fact plain
 small_terms : (facts : List PlainFact) (arcs : List Arc) (key : ℕ) → All IsPlainAmount facts → All IsSmallTerm (terms_of facts arcs key)
 small_terms facts arcs key plain =
     All-filter_map (λ arc. Unit {0}) IsSmallTerm (term_of facts key)
-    (λ arc _. small_if_found arc.negative (fact_at facts arc.node key) (IfSome-find IsPlainAmount (λ fact. (fact.node == arc.node) && (fact.key == key)) facts plain)) arcs (λ k d h. tt)
+    (λ arc _. small_if_found arc.negative (fact_at facts arc.node key) (IfSome-find IsPlainAmount (λ fact. (arc.node == fact.node) && (key == fact.key)) facts plain)) arcs (λ k d h. tt)
 
 small_with_terms : (total : PlainFact) (terms : List Term) → IsSmall (amount_of total) → All IsSmallTerm terms → IfSome (with_terms total terms) IsSmallBinding
 small_with_terms total [] small each = tt

@@ -37,8 +37,8 @@ bindings_in sum plain = bindings_of plain.facts (arcs_of (drop 1 plain.nodes) su
 -- the findings of a plain report, with a verdict for each binding
 pub record IsFindings (sum : SumWords) (plain : Plain) (answer : Answer) : Type 0 where
   pub verdicts : List Verdict
-  pub are : AreVerdicts (bindings_in sum plain) verdicts
-  pub is : answer ≡ make_answer (status_of verdicts) (findings_of (length plain.facts) (bindings_in sum plain) verdicts)
+  pub are : AreVerdicts sum.mode (bindings_in sum plain) verdicts
+  pub is : answer ≡ make_answer (status_of verdicts) (findings_of sum.mode (length plain.facts) (bindings_in sum plain) verdicts)
 
 -- what is answered of a report, by what was read of it
 abbrev pub IsReportAnswer : SumWords → Result Plain PlainFault → Answer → Type 0

@@ -1,7 +1,8 @@
 -- The bindings of the one network of `sum`: which totals are judged, and against what
 -- (Calculations 1.1, the calculation bindings).
-use Rattle.std.specs.Prelude.{ℕ, ◌==◌, ◌&&◌, List, [], ◌∷◌, Bool, Option, Some, None, option_map, map, find, if◌then◌else◌}
+use Rattle.std.specs.Prelude.{ℕ, ◌==◌, List, [], ◌∷◌, Bool, Option, Some, None, option_map, map, if◌then◌else◌}
 use Rattle.std.specs.List.{filter_map, zip}
+use Rattle.xc_report.specs.Facts.{fact_at}
 use Rattle.xc_report.specs.declared.plain.PlainFact.{PlainFact}
 use Rattle.xc_top.specs.Words.{is_negative}
 use Rattle.xc_top.specs.declared.bindings.Arc.{Arc}
@@ -23,10 +24,6 @@ arcs_of nodes terms = map (λ p. make_arc p.1 (is_negative p.0)) (zip terms node
 -- what a fact reports
 abbrev pub amount_of : PlainFact → Amount
 amount_of fact = record { value = fact.value; decimals = fact.decimals }
-
--- the fact of a node with this key
-abbrev pub fact_at : List PlainFact → ℕ → ℕ → Option PlainFact
-fact_at facts node key = find (λ fact. (fact.node == node) && (fact.key == key)) facts
 
 abbrev pub make_term : Bool → PlainFact → Term
 make_term negative fact = record { amount = amount_of fact; negative = negative }

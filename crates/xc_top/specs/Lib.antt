@@ -1,8 +1,8 @@
 pub mod Answer
 pub mod Bindings
-pub mod Ends
+pub mod Small
 pub mod Findings
-pub mod From
+pub mod Sums
 pub mod Laws
 pub mod Lines
 pub mod Named

@@ -2,6 +2,8 @@
 use Rattle.std.specs.Prelude.{ℕ, ◌+◌, ◌/◌, ◌%◌, ◌==◌, ◌||◌, List, [], ◌∷◌, Bool, nat_lt, nat_le, codes, decimal, encode_utf8, if◌then◌else◌}
 use Rattle.std.specs.List.{concat, flat_map}
 use Rattle.std.specs.Str.{chars}
+use Rattle.xc_interval.specs.declared.mode.Mode.{Mode}
+use Rattle.xc_interval.specs.declared.mode.Mode.TheVariants.{Rounding, Truncation}
 use Rattle.xc_top.specs.declared.verdict.Verdict.{Verdict}
 use Rattle.xc_top.specs.declared.verdict.Verdict.TheVariants.{Consistent, Inconsistent}
 
@@ -39,14 +41,18 @@ abbrev pub placed_refusal_line : List ℕ → List ℕ → List ℕ → List ℕ
 placed_refusal_line name code place = concat (codes "refused " ∷ printed name ∷ codes " " ∷ code ∷ codes " " ∷ printed place ∷ codes "\n" ∷ [])
 
 -- the code of a disagreement (Calculations 1.1, the error codes)
-abbrev pub verdict_code : Verdict → List ℕ
-verdict_code Consistent = []
-verdict_code Inconsistent = codes " calc11e:inconsistentCalculationUsingRounding"
+abbrev pub mode_code : Mode → List ℕ
+mode_code Rounding = codes " calc11e:inconsistentCalculationUsingRounding"
+mode_code Truncation = codes " calc11e:inconsistentCalculationUsingTruncation"
+
+abbrev pub verdict_code : Mode → Verdict → List ℕ
+verdict_code mode Consistent = []
+verdict_code mode Inconsistent = mode_code mode
 
 abbrev pub verdict_word : Verdict → List ℕ
 verdict_word Consistent = codes " consistent sum "
 verdict_word Inconsistent = codes " inconsistent sum "
 
 -- the verdict of a binding, by its number and its total's fact
-abbrev pub binding_line : ℕ → List ℕ → Verdict → List ℕ
-binding_line number id verdict = concat (codes "binding " ∷ decimal number ∷ verdict_word verdict ∷ printed id ∷ verdict_code verdict ∷ codes "\n" ∷ [])
+abbrev pub binding_line : Mode → ℕ → List ℕ → Verdict → List ℕ
+binding_line mode number id verdict = concat (codes "binding " ∷ decimal number ∷ verdict_word verdict ∷ printed id ∷ verdict_code mode verdict ∷ codes "\n" ∷ [])

@@ -1,36 +1,23 @@
 -- What a reported amount stands for, and when a total agrees with its contributors.
-use Rattle.std.specs.Prelude.{◌≡◌, ℕ, ℤ, pos, negsuc, neg_ℤ, ◌+ℤ◌, ◌-ℤ◌, ◌*ℤ◌, ◌*◌, ◌^◌, ◌<◌, ◌≤◌, unsigned_abs, List, [], ◌∷◌, Option, Some, None, Bool, true, false}
+use Rattle.std.specs.Prelude.{◌≡◌, ℕ, ℤ, pos, neg_ℤ, ◌+ℤ◌, ◌<◌, List, [], ◌∷◌, Bool, true, false}
+use Rattle.xc_interval.specs.Admits as standard
+use Rattle.xc_interval.specs.declared.mode.Mode.{Mode}
 use Rattle.xc_top.specs.Bindings.{SumBinding, amount_of}
 use Rattle.xc_top.specs.declared.bindings.Amount.{Amount}
 use Rattle.xc_top.specs.declared.bindings.Term.{Term}
 use Rattle.xc_top.specs.declared.verdict.Verdict.{Verdict}
 use Rattle.xc_top.specs.declared.verdict.Verdict.TheVariants.{Consistent, Inconsistent}
 
--- 10 ^ d for a d that is positive, and else 1
-abbrev pub ten_to : ℤ → ℕ
-ten_to (pos d) = 10 ^ d
-ten_to (negsuc d) = 1
-
--- p/q lies within half a unit of the place of d decimals from the value v: |p/q - v| <= 10^-d / 2
--- (Calculations 1.1, rounding)
-abbrev pub IsWithin : ℤ → ℤ → ℤ → ℕ → Type 0
-IsWithin v d p q = 2 * ten_to d * unsigned_abs (p -ℤ v *ℤ pos q) ≤ ten_to (neg_ℤ d) * q
-
--- the amount v to these decimals may stand for p/q; with no decimals it is exact
-abbrev pub AdmitsTo : ℤ → Option ℤ → ℤ → ℕ → Type 0
-AdmitsTo v None p q = p ≡ v *ℤ pos q
-AdmitsTo v (Some d) p q = IsWithin v d p q
-
--- an amount may stand for p/q
-abbrev pub Admits : Amount → ℤ → ℕ → Type 0
-Admits amount p q = AdmitsTo amount.value amount.decimals p q
+-- an amount may stand for p/q (Calculations 1.1, the interval of a fact in each mode)
+abbrev pub Admits : Mode → Amount → ℤ → ℕ → Type 0
+Admits mode amount p q = standard.Admits mode amount.decimals amount.value.digits amount.value.places p q
 
 -- each term's amount may stand for its number over q
-abbrev pub EachAdmits : List Term → List ℤ → ℕ → Type 0
-EachAdmits [] [] q = Unit {0}
-EachAdmits [] (p ∷ ps) q = ⊥
-EachAdmits (term ∷ terms) [] q = ⊥
-EachAdmits (term ∷ terms) (p ∷ ps) q = Admits term.amount p q × EachAdmits terms ps q
+abbrev pub EachAdmits : Mode → List Term → List ℤ → ℕ → Type 0
+EachAdmits mode [] [] q = Unit {0}
+EachAdmits mode [] (p ∷ ps) q = ⊥
+EachAdmits mode (term ∷ terms) [] q = ⊥
+EachAdmits mode (term ∷ terms) (p ∷ ps) q = Admits mode term.amount p q × EachAdmits mode terms ps q
 
 -- a number, or its negative
 abbrev pub signed : Bool → ℤ → ℤ
@@ -45,27 +32,27 @@ signed_sum (term ∷ terms) (p ∷ ps) = signed term.negative p +ℤ signed_sum 
 
 -- values exist, one that the total's amount may stand for and one for each term's, such that the total's
 -- is the sum of the terms': numbers over one positive number (Calculations 1.1, the consistency of a binding)
-pub record Agrees (total : Amount) (terms : List Term) : Type 0 where
+pub record Agrees (mode : Mode) (total : Amount) (terms : List Term) : Type 0 where
   pub over : ℕ
   pub positive : 0 < over
   pub sum : ℤ
   pub values : List ℤ
-  pub total_admits : Admits total sum over
-  pub terms_admit : EachAdmits terms values over
+  pub total_admits : Admits mode total sum over
+  pub terms_admit : EachAdmits mode terms values over
   pub adds : sum ≡ signed_sum terms values
 
 -- the verdict on a total and its contributors
-abbrev pub IsVerdictOn : Amount → List Term → Verdict → Type 0
-IsVerdictOn total terms Consistent = Agrees total terms
-IsVerdictOn total terms Inconsistent = ¬ Agrees total terms
+abbrev pub IsVerdictOn : Mode → Amount → List Term → Verdict → Type 0
+IsVerdictOn mode total terms Consistent = Agrees mode total terms
+IsVerdictOn mode total terms Inconsistent = ¬ Agrees mode total terms
 
 -- the verdict of a binding
-abbrev pub IsVerdict : SumBinding → Verdict → Type 0
-IsVerdict binding verdict = IsVerdictOn (amount_of binding.total) binding.terms verdict
+abbrev pub IsVerdict : Mode → SumBinding → Verdict → Type 0
+IsVerdict mode binding verdict = IsVerdictOn mode (amount_of binding.total) binding.terms verdict
 
 -- one verdict for each binding, in their order
-abbrev pub AreVerdicts : List SumBinding → List Verdict → Type 0
-AreVerdicts [] [] = Unit {0}
-AreVerdicts [] (verdict ∷ verdicts) = ⊥
-AreVerdicts (binding ∷ bindings) [] = ⊥
-AreVerdicts (binding ∷ bindings) (verdict ∷ verdicts) = IsVerdict binding verdict × AreVerdicts bindings verdicts
+abbrev pub AreVerdicts : Mode → List SumBinding → List Verdict → Type 0
+AreVerdicts mode [] [] = Unit {0}
+AreVerdicts mode [] (verdict ∷ verdicts) = ⊥
+AreVerdicts mode (binding ∷ bindings) [] = ⊥
+AreVerdicts mode (binding ∷ bindings) (verdict ∷ verdicts) = IsVerdict mode binding verdict × AreVerdicts mode bindings verdicts

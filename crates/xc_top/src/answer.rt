@@ -13,8 +13,8 @@ use crate::findings::{findings_of, status_of, verdicts_of};
 use crate::lines::{placed_refusal_line, read_fault_line, refusal_line};
 use crate::words::{Sum, name_of};
 use crate::{Answer, Status};
-use std::alloc::{AllocError, Global};
-use xc_frac::Text;
+use std::alloc::Global;
+use xc_frac::{Memory, Text};
 use xc_io::{Shelf, ShelfFault};
 use xc_report::{Plain, PlainFault, read_plain};
 
@@ -22,11 +22,7 @@ use xc_report::{Plain, PlainFault, read_plain};
 const LIMIT: usize = 67_108_864;
 
 /// What is written of `sum`, and how the run ends.
-pub fn answer_sum<S: Shelf>(
-    alloc: Global,
-    sum: &Sum<'_>,
-    shelf: &mut S,
-) -> Result<Answer, AllocError>
+pub fn answer_sum<S: Shelf>(alloc: Global, sum: &Sum<'_>, shelf: &mut S) -> Result<Answer, Memory>
     // Where no fetch failed the answer is that of the bytes held.
     ensures told { IfOk result (λ answer. ¬ (answer.status ≡ Status.ReadFault) →
         IfSome (S.held shelf.old) (λ files. IsFileAnswer (named sum.now) (files sum.now.report.now) answer)) }
@@ -45,13 +41,13 @@ pub fn answer_sum<S: Shelf>(
     match shelf.fetch(sum.report, LIMIT) {
         Ok(bytes) => answer_report(alloc, sum, &bytes),
         Err(ShelfFault::TooLong) => refused(alloc, sum.report, "xc:tooLong"),
-        Err(ShelfFault::Memory) => Err(AllocError),
+        Err(ShelfFault::Memory) => Err(Memory),
         Err(ShelfFault::Failed) => unread(alloc, sum.report),
     }
 }
 
 // A file that could not be read.
-fn unread(alloc: Global, name: &str) -> Result<Answer, AllocError>
+fn unread(alloc: Global, name: &str) -> Result<Answer, Memory>
     ensures { IfOk result (λ answer. answer ≡ make_answer Status.ReadFault (read_fault_line name.now)) }
 {
     Ok(Answer {
@@ -61,7 +57,7 @@ fn unread(alloc: Global, name: &str) -> Result<Answer, AllocError>
 }
 
 // A file that is refused.
-fn refused(alloc: Global, name: &str, code: &str) -> Result<Answer, AllocError>
+fn refused(alloc: Global, name: &str, code: &str) -> Result<Answer, Memory>
     ensures { IfOk result (λ answer. answer ≡ make_answer Status.Refused (refusal_line name.now code.now)) }
 {
     Ok(Answer {
@@ -71,7 +67,7 @@ fn refused(alloc: Global, name: &str, code: &str) -> Result<Answer, AllocError>
 }
 
 // A file that is refused, with the place of the fault in it.
-fn refused_at(alloc: Global, name: &str, code: &str, place: &str) -> Result<Answer, AllocError>
+fn refused_at(alloc: Global, name: &str, code: &str, place: &str) -> Result<Answer, Memory>
     ensures { IfOk result (λ answer. answer ≡ make_answer Status.Refused (placed_refusal_line name.now code.now place.now)) }
 {
     Ok(Answer {
@@ -80,7 +76,7 @@ fn refused_at(alloc: Global, name: &str, code: &str, place: &str) -> Result<Answ
     })
 }
 
-fn answer_report(alloc: Global, sum: &Sum<'_>, bytes: &[u8]) -> Result<Answer, AllocError>
+fn answer_report(alloc: Global, sum: &Sum<'_>, bytes: &[u8]) -> Result<Answer, Memory>
     ensures answer { IfOk result (λ answer. IsReportAnswer (named sum.now) (plain_answer bytes.now (nodes_of (named sum.now))) answer) }
     ensures ends { IfOk result (λ answer. IsEnding answer.status) }
 {
@@ -92,12 +88,12 @@ fn answer_report(alloc: Global, sum: &Sum<'_>, bytes: &[u8]) -> Result<Answer, A
         Err(PlainFault::TwoFacts(id)) => {
             refused_at(alloc, sum.report, "xc:twoFacts", id.as_str())
         }
-        Err(PlainFault::Memory) => Err(AllocError),
+        Err(PlainFault::Memory) => Err(Memory),
     }
 }
 
 // The names whose facts are read: the total's, and the contributors'.
-fn nodes_of(alloc: Global, sum: &Sum<'_>) -> Result<Vec<String>, AllocError>
+fn nodes_of(alloc: Global, sum: &Sum<'_>) -> Result<Vec<String>, Memory>
     ensures { IfOk result (λ nodes. node_texts nodes.items ≡ nodes_of (named sum.now)) }
 {
     let mut nodes = Vec::new(alloc);
@@ -108,7 +104,7 @@ fn nodes_of(alloc: Global, sum: &Sum<'_>) -> Result<Vec<String>, AllocError>
     Ok(nodes)
 }
 
-fn answer_plain(alloc: Global, sum: &Sum<'_>, plain: &Plain) -> Result<Answer, AllocError>
+fn answer_plain(alloc: Global, sum: &Sum<'_>, plain: &Plain) -> Result<Answer, Memory>
     requires { All IsPlainAmount plain.now.facts }
     ensures answer { IfOk result (λ answer. IsFindings (named sum.now) plain.now answer) }
     ensures ends { IfOk result (λ answer. IsEnding answer.status) }
@@ -116,8 +112,8 @@ fn answer_plain(alloc: Global, sum: &Sum<'_>, plain: &Plain) -> Result<Answer, A
     let facts = plain.facts.as_slice();
     let arcs = arcs_of(alloc, contributors_of(plain.nodes.as_slice()), sum.terms)?;
     let bindings = bindings_of(alloc, facts, &arcs)?;
-    let verdicts = verdicts_of(alloc, &bindings)?;
-    let text = findings_of(alloc, facts.len(), &bindings, &verdicts)?;
+    let verdicts = verdicts_of(alloc, &bindings, sum.mode)?;
+    let text = findings_of(alloc, facts.len(), &bindings, &verdicts, sum.mode)?;
     Ok(Answer {
         status: status_of(&verdicts),
         text: Text::of(text),

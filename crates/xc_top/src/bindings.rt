@@ -1,13 +1,14 @@
 // The bindings of the one network of `sum`: which totals are judged, and against what.
 ghost use Rattle.std.specs.Prelude.{◌≡◌, IfOk, map, option_map};
 ghost use Rattle.xc_top.specs.Words.{texts};
-ghost use Rattle.xc_top.specs.Bindings.{arcs_of, fact_at, term_of, terms_of, binding_of, bindings_of, amount_of};
+ghost use Rattle.xc_top.specs.Bindings.{arcs_of, term_of, terms_of, binding_of, bindings_of, amount_of};
 ghost use Rattle.xc_top.specs.Shown.{shown};
 
 use crate::words::is_negative;
-use std::alloc::{AllocError, Global};
-use xc_frac::Items;
-use xc_report::PlainFact;
+use std::alloc::Global;
+use xc_decimal::Decimal;
+use xc_frac::{Items, Memory};
+use xc_report::{FactIndex, PlainFact};
 
 /// A contributor of the network: its node, and whether its weight is -1 in place of 1.
 #[derive(Clone, Copy, Debug, PartialEq, Eq)]
@@ -16,10 +17,10 @@ pub struct Arc {
     pub negative: bool,
 }
 
-/// What a fact reports: a whole number, and the decimals to which it is given, where it is not exact.
+/// What a fact reports: a number, and the decimals to which it is given, where it is not exact.
 #[derive(Clone, Copy, Debug, PartialEq, Eq)]
 pub struct Amount {
-    pub value: i64,
+    pub value: Decimal,
     pub decimals: Option<i32>,
 }
 
@@ -38,7 +39,7 @@ pub struct Binding<'a> {
 }
 
 /// The network's arcs, from the contributors' nodes and words.
-pub fn arcs_of(alloc: Global, nodes: &[u64], terms: &[String]) -> Result<Vec<Arc>, AllocError>
+pub fn arcs_of(alloc: Global, nodes: &[u64], terms: &[String]) -> Result<Vec<Arc>, Memory>
     ensures { IfOk result (λ arcs. arcs.items ≡ arcs_of nodes.now (texts terms.now)) }
 {
     let mut arcs = Vec::new(alloc);
@@ -61,12 +62,13 @@ pub fn bindings_of<'a>(
     alloc: Global,
     facts: &'a [PlainFact],
     arcs: &[Arc],
-) -> Result<Vec<Binding<'a>>, AllocError>
+) -> Result<Vec<Binding<'a>>, Memory>
     ensures { IfOk result (λ bindings. map shown bindings.items ≡ bindings_of facts.now arcs.now) }
 {
     let mut bindings = Vec::new(alloc);
+    let index = FactIndex::of(alloc, facts)?;
     for total in facts {
-        if let Some(binding) = binding_of(alloc, facts, arcs, total)? {
+        if let Some(binding) = binding_of(alloc, &index, arcs, total)? {
             bindings.push(binding)?;
         }
     }
@@ -76,10 +78,10 @@ pub fn bindings_of<'a>(
 // The binding of a fact, where it is one of the total and a contributor is reported beside it.
 fn binding_of<'a>(
     alloc: Global,
-    facts: &[PlainFact],
+    facts: &FactIndex<'_>,
     arcs: &[Arc],
     total: &'a PlainFact,
-) -> Result<Option<Binding<'a>>, AllocError>
+) -> Result<Option<Binding<'a>>, Memory>
     ensures { IfOk result (λ binding. option_map shown binding ≡ binding_of facts.now arcs.now total.now) }
 {
     if total.node != 0 {
@@ -98,10 +100,10 @@ fn binding_of<'a>(
 // The contributors that are reported with this key.
 fn terms_of(
     alloc: Global,
-    facts: &[PlainFact],
+    facts: &FactIndex<'_>,
     arcs: &[Arc],
     key: u64,
-) -> Result<Vec<Term>, AllocError>
+) -> Result<Vec<Term>, Memory>
     ensures { IfOk result (λ terms. terms.items ≡ terms_of facts.now arcs.now key) }
 {
     let mut terms = Vec::new(alloc);
@@ -113,24 +115,16 @@ fn terms_of(
     Ok(terms)
 }
 
-fn term_of(facts: &[PlainFact], key: u64, arc: Arc) -> Option<Term>
+fn term_of(facts: &FactIndex<'_>, key: u64, arc: Arc) -> Option<Term>
     ensures { result ≡ term_of facts.now key arc }
 {
-    match fact_at(facts, arc.node, key) {
+    match facts.at(arc.node, key) {
         Some(fact) => Some(Term {
             amount: amount_of(fact),
             negative: arc.negative,
         }),
         None => None,
     }
-}
-
-fn fact_at(facts: &[PlainFact], node: u64, key: u64) -> Option<&PlainFact>
-    ensures { option_map (λ fact. fact.now) result ≡ fact_at facts.now node key }
-{
-    facts
-        .iter()
-        .find(|fact| fact.node == node && fact.key == key)
 }
 
 /// What a fact reports.

@@ -1,7 +1,7 @@
 // The verdicts of all bindings, and what is written of them.
 ghost use Rattle.std.specs.Prelude.{◌≡◌, IfOk, All, map, string_bytes};
 ghost use Rattle.std.specs.List.{list_any};
-ghost use Rattle.xc_top.specs.Ends.{IsSmallBinding};
+ghost use Rattle.xc_top.specs.Small.{IsSmallBinding};
 ghost use Rattle.xc_top.specs.Findings.{findings_of, status_of, is_inconsistent};
 ghost use Rattle.xc_top.specs.Shown.{shown};
 ghost use Rattle.xc_top.specs.Verdicts.{AreVerdicts};
@@ -10,16 +10,22 @@ use crate::Status;
 use crate::bindings::Binding;
 use crate::lines::{binding_line, counts_line};
 use crate::verdict::{Verdict, verdict_of};
-use std::alloc::{AllocError, Global};
+use std::alloc::Global;
+use xc_frac::Memory;
+use xc_interval::Mode;
 
 /// One verdict for each binding, in their order.
-pub fn verdicts_of(alloc: Global, bindings: &[Binding<'_>]) -> Result<Vec<Verdict>, AllocError>
+pub fn verdicts_of(
+    alloc: Global,
+    bindings: &[Binding<'_>],
+    mode: Mode,
+) -> Result<Vec<Verdict>, Memory>
     requires { All IsSmallBinding (map shown bindings.now) }
-    ensures { IfOk result (λ verdicts. AreVerdicts (map shown bindings.now) verdicts.items) }
+    ensures { IfOk result (λ verdicts. AreVerdicts mode (map shown bindings.now) verdicts.items) }
 {
     let mut verdicts = Vec::new(alloc);
     for binding in bindings {
-        verdicts.push(verdict_of(binding))?;
+        verdicts.push(verdict_of(binding, mode))?;
     }
     Ok(verdicts)
 }
@@ -30,8 +36,9 @@ pub fn findings_of(
     points: usize,
     bindings: &[Binding<'_>],
     verdicts: &[Verdict],
-) -> Result<String, AllocError>
-    ensures { IfOk result (λ text. string_bytes text ≡ findings_of points (map shown bindings.now) verdicts.now) }
+    mode: Mode,
+) -> Result<String, Memory>
+    ensures { IfOk result (λ text. string_bytes text ≡ findings_of mode points (map shown bindings.now) verdicts.now) }
 {
     let mut text = counts_line(alloc, bindings.len(), points)?;
     let mut left = verdicts;
@@ -39,7 +46,7 @@ pub fn findings_of(
         let Some((verdict, rest)) = left.split_first() else {
             return Ok(text);
         };
-        let line = binding_line(alloc, number, binding.total.id.as_str(), *verdict)?;
+        let line = binding_line(alloc, number, binding.total.id.as_str(), *verdict, mode)?;
         text.push_str(line.as_str())?;
         left = rest;
     }

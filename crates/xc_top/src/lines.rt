@@ -1,10 +1,11 @@
 // The output's lines, each ended by a line feed, and the texts in them.
 ghost use Rattle.std.specs.Prelude.{◌≡◌, ◌<◌, ◌++◌, IfOk, OnOk, map, string_bytes};
 ghost use Rattle.std.specs.List.{concat};
-ghost use Rattle.xc_top.specs.Lines.{printed, printed_char, is_escaped, hex_digit, counts_line, read_fault_line, refusal_line, placed_refusal_line, binding_line, verdict_word, verdict_code};
+ghost use Rattle.xc_top.specs.Lines.{printed, printed_char, is_escaped, hex_digit, counts_line, read_fault_line, refusal_line, placed_refusal_line, binding_line, verdict_word, verdict_code, mode_code};
 
 use crate::verdict::Verdict;
 use std::alloc::{AllocError, Global};
+use xc_interval::Mode;
 
 /// A text as it is printed in a line: a character up to the space, `%` or the delete character as `%`
 /// and two hexadecimal digits, the empty text as `%`.
@@ -128,8 +129,9 @@ pub fn binding_line(
     number: usize,
     id: &str,
     verdict: Verdict,
+    mode: Mode,
 ) -> Result<String, AllocError>
-    ensures { IfOk result (λ line. string_bytes line ≡ binding_line number id.now verdict) }
+    ensures { IfOk result (λ line. string_bytes line ≡ binding_line mode number id.now verdict) }
 {
     let number = number.to_string(alloc)?;
     let id = printed(alloc, id)?;
@@ -140,7 +142,7 @@ pub fn binding_line(
             number.as_str(),
             verdict_word(verdict),
             id.as_str(),
-            verdict_code(verdict),
+            verdict_code(verdict, mode),
             "\n",
         ],
     )
@@ -155,11 +157,20 @@ fn verdict_word(verdict: Verdict) -> &'static str
     }
 }
 
-fn verdict_code(verdict: Verdict) -> &'static str
-    ensures { result.now ≡ verdict_code verdict }
+fn verdict_code(verdict: Verdict, mode: Mode) -> &'static str
+    ensures { result.now ≡ verdict_code mode verdict }
 {
     match verdict {
         Verdict::Consistent => "",
-        Verdict::Inconsistent => " calc11e:inconsistentCalculationUsingRounding",
+        Verdict::Inconsistent => mode_code(mode),
+    }
+}
+
+fn mode_code(mode: Mode) -> &'static str
+    ensures { result.now ≡ mode_code mode }
+{
+    match mode {
+        Mode::Rounding => " calc11e:inconsistentCalculationUsingRounding",
+        Mode::Truncation => " calc11e:inconsistentCalculationUsingTruncation",
     }
 }

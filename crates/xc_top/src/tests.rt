@@ -8,7 +8,8 @@ use xc_io::{MemoryShelf, MemorySink};
 const HEAD: &str =
     "{\"documentInfo\":{\"documentType\":\"https://xbrl.org/2021/xbrl-json\",\"namespaces\":{\"eg\":\"http://example.com/t\",\"same\":\"http://example.com/t\",\"e\":\"http://example.com/e\",\"iso4217\":\"http://www.xbrl.org/2003/iso4217\"},\"taxonomy\":[\"t.xsd\"]},\"facts\":{";
 
-// A report of facts that are written `id value concept year`, each to 0 decimals, with `;` between two.
+// A report of facts that are written `id value concept year decimals`, without the decimals where they are exact, with
+// `;` behind each.
 fn report_of(alloc: Global, facts: &str) -> Result<String, Fail> {
     let mut report = String::from_str(alloc, HEAD)?;
     for (at, fact) in facts.split_terminator(';').enumerate() {
@@ -24,7 +25,7 @@ fn report_of(alloc: Global, facts: &str) -> Result<String, Fail> {
 fn push_fact(report: &mut String, fact: &str) -> Result<(), Fail> {
     let marks = [
         "\"",
-        "\":{\"decimals\":0,\"value\":\"",
+        "\":{\"value\":\"",
         "\",\"dimensions\":{\"entity\":\"e:1\",\"unit\":\"iso4217:EUR\",\"concept\":\"eg:",
         "\",\"period\":\"",
     ];
@@ -32,7 +33,12 @@ fn push_fact(report: &mut String, fact: &str) -> Result<(), Fail> {
         report.push_str(*mark)?;
         report.push_str(word)?;
     }
-    report.push_str("-01-01T00:00:00\"}}")?;
+    report.push_str("-01-01T00:00:00\"}")?;
+    if let Some(decimals) = fact.split(' ').nth(4) {
+        report.push_str(",\"decimals\":")?;
+        report.push_str(decimals)?;
+    }
+    report.push_str("}")?;
     Ok(())
 }
 
@@ -69,16 +75,20 @@ fn expect(
 
 const SUM: &str = "sum rounding r.json eg:T +eg:A +eg:B";
 
+const CUT: &str = "sum truncation r.json eg:T +eg:A +eg:B";
+
+const CUT_ONE: &str = "sum truncation r.json eg:T +eg:A";
+
 // Facts, words, and what is written, and how the run ends.
-const JUDGED: [(&str, &str, &str, Status); 11] = [
+const JUDGED: [(&str, &str, &str, Status); 22] = [
     (
-        "a 50 A 2024;b 50 B 2024;t 100 T 2024;",
+        "a 50 A 2024 0;b 50 B 2024 0;t 100 T 2024 0;",
         SUM,
         "bindings 1 points 3\nbinding 0 consistent sum t\n",
         Status::Sound,
     ),
     (
-        "a 50 A 2024;b 50 B 2024;t 102 T 2024;",
+        "a 50 A 2024 0;b 50 B 2024 0;t 102 T 2024 0;",
         SUM,
         "bindings 1 points 3\nbinding 0 inconsistent sum t calc11e:inconsistentCalculationUsingRounding\n",
         Status::Findings,
@@ -86,58 +96,131 @@ const JUDGED: [(&str, &str, &str, Status); 11] = [
     ("", SUM, "bindings 0 points 0\n", Status::Sound),
     // The ends meet at 100.5: the total is in [100.5, 101.5], the sum in [99, 101].
     (
-        "a 50 A 2024;b 50 B 2024;t 101 T 2024;",
+        "a 50 A 2024 0;b 50 B 2024 0;t 101 T 2024 0;",
         SUM,
         "bindings 1 points 3\nbinding 0 consistent sum t\n",
         Status::Sound,
     ),
     // A contributor that is taken away, by another prefix of its namespace.
     (
-        "a 50 A 2024;b 50 B 2024;t 0 T 2024;",
+        "a 50 A 2024 0;b 50 B 2024 0;t 0 T 2024 0;",
         "sum rounding r.json eg:T +eg:A -same:B",
         "bindings 1 points 3\nbinding 0 consistent sum t\n",
         Status::Sound,
     ),
     // The total among its own terms: two terms of one point have two values.
     (
-        "t 1 T 2024;",
+        "t 1 T 2024 0;",
         "sum rounding r.json eg:T +eg:T -eg:T",
         "bindings 1 points 1\nbinding 0 consistent sum t\n",
         Status::Sound,
     ),
     // A contributor that is not reported is left out.
     (
-        "a 100 A 2024;t 100 T 2024;",
+        "a 100 A 2024 0;t 100 T 2024 0;",
         SUM,
         "bindings 1 points 2\nbinding 0 consistent sum t\n",
         Status::Sound,
     ),
     // Two periods are two bindings, by the ids of their totals.
     (
-        "a 50 A 2024;c 7 A 2023;t 9 T 2023;u 50 T 2024;",
+        "a 50 A 2024 0;c 7 A 2023 0;t 9 T 2023 0;u 50 T 2024 0;",
         SUM,
         "bindings 2 points 4\nbinding 0 inconsistent sum t calc11e:inconsistentCalculationUsingRounding\nbinding 1 consistent sum u\n",
         Status::Findings,
     ),
     // Ends that meet: the total is in [101.5, 102.5], the sum of three in [99.5, 102.5]; one more is a miss.
     (
-        "a 50 A 2024;b 51 B 2024;t 102 T 2024;",
+        "a 50 A 2024 0;b 51 B 2024 0;t 102 T 2024 0;",
         "sum rounding r.json eg:T +eg:A +eg:B",
         "bindings 1 points 3\nbinding 0 consistent sum t\n",
         Status::Sound,
     ),
     (
-        "a 50 A 2024;b 50 B 2024;t -100 T 2024;",
+        "a 50 A 2024 0;b 50 B 2024 0;t -100 T 2024 0;",
         "sum rounding r.json eg:T -eg:A -eg:B",
         "bindings 1 points 3\nbinding 0 consistent sum t\n",
         Status::Sound,
     ),
     // No contributor is reported beside the total.
     (
-        "a 50 A 2023;t 50 T 2024;",
+        "a 50 A 2023 0;t 50 T 2024 0;",
         SUM,
         "bindings 0 points 2\n",
         Status::Sound,
+    ),
+    // The total is in [101, 102], the sum in [99, 101].
+    (
+        "a 50 A 2024 0;b 50 B 2024 0;t 101.5 T 2024 0;",
+        SUM,
+        "bindings 1 points 3\nbinding 0 consistent sum t\n",
+        Status::Sound,
+    ),
+    // Cut off, the total is in [102, 103), and the sum in [100, 102): they miss each other by an open end alone.
+    (
+        "a 50 A 2024 0;b 50 B 2024 0;t 102 T 2024 0;",
+        CUT,
+        "bindings 1 points 3\nbinding 0 inconsistent sum t calc11e:inconsistentCalculationUsingTruncation\n",
+        Status::Findings,
+    ),
+    (
+        "a 50 A 2024 0;b 50 B 2024 0;t 101 T 2024 0;",
+        CUT,
+        "bindings 1 points 3\nbinding 0 consistent sum t\n",
+        Status::Sound,
+    ),
+    // Cut off to 0, the total is in (-1, 1), the contributor in [1, 2).
+    (
+        "a 1 A 2024 0;t 0 T 2024 0;",
+        CUT_ONE,
+        "bindings 1 points 2\nbinding 0 inconsistent sum t calc11e:inconsistentCalculationUsingTruncation\n",
+        Status::Findings,
+    ),
+    (
+        "a -0.9 A 2024 1;t 0 T 2024 0;",
+        CUT_ONE,
+        "bindings 1 points 2\nbinding 0 consistent sum t\n",
+        Status::Sound,
+    ),
+    // Below 0 the open end is the low one: the total is in (-102, -101], the sum in (-103, -101].
+    (
+        "a -50 A 2024 0;b -51 B 2024 0;t -101 T 2024 0;",
+        CUT,
+        "bindings 1 points 3\nbinding 0 consistent sum t\n",
+        Status::Sound,
+    ),
+    // Taken away, an interval turns: the total is 0 exactly, and 50 less [49, 50) is in (0, 1].
+    (
+        "a 50 A 2024;b 49 B 2024 0;t 0 T 2024;",
+        "sum truncation r.json eg:T +eg:A -eg:B",
+        "bindings 1 points 3\nbinding 0 inconsistent sum t calc11e:inconsistentCalculationUsingTruncation\n",
+        Status::Findings,
+    ),
+    // Exact values agree alone where they add up.
+    (
+        "a 0.1 A 2024;b 0.2 B 2024;t 0.30 T 2024;",
+        SUM,
+        "bindings 1 points 3\nbinding 0 consistent sum t\n",
+        Status::Sound,
+    ),
+    (
+        "a 0.1 A 2024;b 0.2 B 2024;t 0.300001 T 2024;",
+        SUM,
+        "bindings 1 points 3\nbinding 0 inconsistent sum t calc11e:inconsistentCalculationUsingRounding\n",
+        Status::Findings,
+    ),
+    // Mixed decimals: 1234.5 to one place and 65000 to thousands, in [65734.45, 66734.55], against 66734.6 to one.
+    (
+        "a 1234.5 A 2024 1;b 65000 B 2024 -3;t 66734.6 T 2024 1;",
+        SUM,
+        "bindings 1 points 3\nbinding 0 consistent sum t\n",
+        Status::Sound,
+    ),
+    (
+        "a 1234.5 A 2024 1;b 65000 B 2024 -3;t 66734.7 T 2024 1;",
+        SUM,
+        "bindings 1 points 3\nbinding 0 inconsistent sum t calc11e:inconsistentCalculationUsingRounding\n",
+        Status::Findings,
     ),
 ];
 
@@ -157,14 +240,17 @@ fn reports_are_judged(rt: HostRuntime) -> Result<(), Fail> {
 #[test]
 fn reports_are_refused(rt: HostRuntime) -> Result<(), Fail> {
     let alloc = rt.alloc();
-    let twice = report_of(alloc, "a 50 A 2024;b 50 B 2024;t 100 T 2024;t2 100 T 2024;")?;
-    let tenths = report_of(alloc, "a 50 A 2024;b 50 B 2024;t 101.5 T 2024;")?;
+    let twice = report_of(
+        alloc,
+        "a 50 A 2024 0;b 50 B 2024 0;t 100 T 2024 0;t2 100 T 2024 0;",
+    )?;
+    let long = report_of(alloc, "a 50 A 2024 0;b 50 B 2024 0;t 0.0000001 T 2024 0;")?;
     for (bytes, text) in [
         (HEAD.as_bytes(), "refused r.json xc:notJson\n"),
         (b"".as_slice(), "refused r.json xc:notJson\n"),
         (b"\"\xFF\"".as_slice(), "refused r.json xc:notJson\n"),
         (b"{}".as_slice(), "refused r.json xc:notYet\n"),
-        (tenths.as_bytes(), "refused r.json xc:notYet\n"),
+        (long.as_bytes(), "refused r.json xc:notYet\n"),
         (twice.as_bytes(), "refused r.json xc:twoFacts t2\n"),
     ] {
         expect(&rt, alloc, bytes, SUM, text, Status::Refused)?;
@@ -180,7 +266,8 @@ fn words_are_refused(rt: HostRuntime) -> Result<(), Fail> {
     let alloc = rt.alloc();
     for words in [
         "sum rounding r.json eg:T",
-        "sum truncation r.json eg:T +eg:A",
+        "sum truncation r.json eg:T",
+        "sum round r.json eg:T +eg:A",
         "sum rounding r.json eg:T eg:A",
         "sum rounding r.json T +eg:A",
         "sum rounding -r.json eg:T +eg:A",
@@ -202,7 +289,7 @@ fn ids_are_escaped(rt: HostRuntime) -> Result<(), Fail> {
         ("t\\u0020%\\n", "t%20%25%0A"),
         ("\\u0000\\u007F\\u00E9", "%00%7F\u{E9}"),
     ] {
-        let facts = format!(in alloc; "a 50 A 2024;{id} 50 T 2024;")?;
+        let facts = format!(in alloc; "a 50 A 2024 0;{id} 50 T 2024 0;")?;
         let report = report_of(alloc, facts.as_str())?;
         let text = format!(in alloc; "bindings 1 points 2\nbinding 0 consistent sum {printed}\n")?;
         let words = "sum rounding r.json eg:T +eg:A";
@@ -243,7 +330,7 @@ fn read_faults_are_told(rt: HostRuntime) -> Result<(), Fail> {
 #[test]
 fn write_faults_are_told(rt: HostRuntime) -> Result<(), Fail> {
     let alloc = rt.alloc();
-    let report = report_of(alloc, "a 100 A 2024;t 100 T 2024;")?;
+    let report = report_of(alloc, "a 100 A 2024 0;t 100 T 2024 0;")?;
     for (room, failing, text) in [
         (
             1000,
@@ -266,12 +353,15 @@ fn write_faults_are_told(rt: HostRuntime) -> Result<(), Fail> {
 #[test]
 fn text_is_put_once(rt: HostRuntime) -> Result<(), Fail> {
     let alloc = rt.alloc();
-    let report = report_of(alloc, "a 100 A 2024;t 100 T 2024;")?;
+    let report = report_of(alloc, "a 100 A 2024 0;t 100 T 2024 0;")?;
     let mut shelf = shelf_of(alloc, report.as_bytes().to_vec(alloc)?, Vec::new(alloc))?;
     let mut out = MemorySink::new(alloc, 1000, vec![in alloc; 1]?)?;
     let ended = run(alloc, &words_of(alloc, SUM)?, &mut shelf, &mut out);
     assert_eq!(rt; ended, Status::Sound);
-    assert_eq!(rt; out.bytes(), b"bindings 1 points 2\nbinding 0 consistent sum t\n".as_slice());
+    assert_eq!(rt;
+        out.bytes(),
+        b"bindings 1 points 2\nbinding 0 consistent sum t\n".as_slice()
+    );
     Ok(())
 }
 

@@ -1,14 +1,17 @@
-// Whether a total agrees with its contributors, by the ends of their intervals.
-ghost use Rattle.std.specs.Prelude.{◌≡◌, ◌<◌, ◌^◌, ℤ, pos, ◌+ℤ◌, ◌-ℤ◌, ◌*ℤ◌, ◌<ℤ◌, unsigned_abs, ◌↔◌, IsTrue, All};
-ghost use Rattle.xc_model.specs.Ratio.{IsOver, fraction_of};
-ghost use Rattle.xc_model.specs.Width.{IsNarrow, SumPasses};
-ghost use Rattle.xc_top.specs.Ends.{IsSmall, IsSmallTerm, IsSmallBinding, IsSmallPlace, half_of, low_of, high_of, signed_low, signed_high, sum_low, sum_high, unit};
-ghost use Rattle.xc_top.specs.From.{IsFrom};
+// Whether a total agrees with its contributors, by the intervals that they stand for.
+ghost use Rattle.std.specs.Prelude.{◌+◌, ◌<◌, ◌^◌, ◌↔◌, ℕ, pos, All};
+ghost use Rattle.xc_model.specs.Fraction.{Fraction, SameNumber, whole};
+ghost use Rattle.xc_model.specs.Ratio.{fraction_of};
+ghost use Rattle.xc_interval.specs.Arithmetic.{IsSumOfNumbers};
+ghost use Rattle.xc_interval.specs.Intervals.{numbers_of, HasNumber};
 ghost use Rattle.xc_top.specs.Shown.{shown};
+ghost use Rattle.xc_top.specs.Small.{IsSmall, IsSmallTerm, IsSmallBinding, AreUnits, most};
+ghost use Rattle.xc_top.specs.Sums.{IsAmountOf, IsTermOf, IsSumOf, Holds, IsSome};
 ghost use Rattle.xc_top.specs.Verdicts.{IsVerdict, IsVerdictOn};
 
 use crate::bindings::{Amount, Binding, Term, amount_of};
-use xc_frac::Frac;
+use xc_frac::{Exact, Frac, Scalar};
+use xc_interval::{End, Interval, Mode, reported};
 
 /// The verdict of a binding.
 #[derive(Clone, Copy, Debug, PartialEq, Eq)]
@@ -21,143 +24,94 @@ pub enum Verdict {
 
 /// Whether values exist, one in the total's interval and one in each term's, such that the total is the signed sum
 /// of the terms (Calculations 1.1, the consistency of a binding).
-pub fn verdict_of(binding: &Binding<'_>) -> Verdict
+pub fn verdict_of(binding: &Binding<'_>, mode: Mode) -> Verdict
     requires { IsSmallBinding (shown binding.now) }
-    ensures { IsVerdict (shown binding.now) result }
+    ensures { IsVerdict mode (shown binding.now) result }
 {
-    verdict_on(amount_of(binding.total), binding.terms.as_slice())
+    verdict_on(amount_of(binding.total), binding.terms.as_slice(), mode)
 }
 
-// They exist exactly where the total's interval and the sum of the terms' overlap.
-fn verdict_on(total: Amount, terms: &[Term]) -> Verdict
+// They exist exactly where the total's interval meets the sum of the terms'.
+fn verdict_on(total: Amount, terms: &[Term], mode: Mode) -> Verdict
     requires total { IsSmall total }
     requires terms { All IsSmallTerm terms.now }
-    ensures { IsVerdictOn total terms.now result }
+    ensures { IsVerdictOn mode total terms.now result }
 {
-    let total = ends_of(total);
-    let sum = sum_of(terms);
-    if is_above(total.low, sum.high) {
-        return Verdict::Inconsistent;
-    }
-    if is_above(sum.low, total.high) {
-        return Verdict::Inconsistent;
-    }
-    Verdict::Consistent
-}
-
-// How many of the unit 1 has, in which ends are whole numbers: the unit is half of one of the sixth place.
-const UNIT: i128 = 2_000_000;
-
-// The least and the greatest value of an amount or of a sum.
-#[derive(Clone, Copy, Debug, PartialEq, Eq)]
-pub struct Ends {
-    pub low: Frac,
-    pub high: Frac,
-}
-
-// The ends of what an amount may stand for.
-fn ends_of(amount: Amount) -> Ends
-    requires { IsSmall amount }
-    ensures { IsFrom result (low_of amount) (high_of amount) }
-{
-    ends_around(middle_of(amount.value), half_of(amount.decimals))
-}
-
-// A value in units.
-fn middle_of(value: i64) -> i128
-    requires { unsigned_abs value < 10 ^ 12 }
-    ensures units { result ≡ value *ℤ pos unit }
-    ensures small { unsigned_abs result < 10 ^ 19 }
-{
-    i128::from(value) * UNIT
-}
-
-// Half of one of the last place that the decimals give, in units.
-fn half_of(decimals: Option<i32>) -> i128
-    requires { IsSmallPlace decimals }
-    ensures units { result ≡ pos (half_of decimals) }
-    ensures small { unsigned_abs result < 10 ^ 19 }
-{
-    match decimals {
-        None => 0,
-        Some(decimals) => i128::from(10u64.pow((6 - decimals) as u32)),
-    }
-}
-
-fn ends_around(middle: i128, half: i128) -> Ends
-    requires middle { unsigned_abs middle < 10 ^ 19 }
-    requires half { unsigned_abs half < 10 ^ 19 }
-    ensures { IsFrom result (middle -ℤ half) (middle +ℤ half) }
-{
-    Ends {
-        low: in_units(middle - half),
-        high: in_units(middle + half),
-    }
-}
-
-fn in_units(count: i128) -> Frac
-    requires { IsNarrow count }
-    ensures { IsOver result count unit }
-{
-    Frac::of(count, UNIT).unwrap()
-}
-
-// The ends of a term, with its sign.
-fn signed_ends_of(term: &Term) -> Ends
-    requires { IsSmallTerm term.now }
-    ensures { IsFrom result (signed_low term.now.negative term.now.amount) (signed_high term.now.negative term.now.amount) }
-{
-    let ends = ends_of(term.amount);
-    if term.negative {
-        Ends {
-            low: ends.high.neg(),
-            high: ends.low.neg(),
-        }
+    let common = interval_of(total, mode).meet(&sum_of(terms, mode));
+    if common.is_empty() {
+        Verdict::Inconsistent
     } else {
-        ends
+        Verdict::Consistent
     }
 }
 
-// The ends of the sum of the terms.
-fn sum_of(terms: &[Term]) -> Ends
-    requires { All IsSmallTerm terms.now }
-    ensures { IsFrom result (sum_low terms.now) (sum_high terms.now) }
+// What an amount may stand for.
+fn interval_of(amount: Amount, mode: Mode) -> Interval<Frac>
+    requires { IsSmall amount }
+    ensures numbers { Holds result (IsAmountOf mode amount) }
+    ensures units { AreUnits most result }
+    ensures some { IsSome result }
 {
-    let mut sum = Ends {
-        low: in_units(0),
-        high: in_units(0),
-    };
-    for term in terms {
-        sum = plus(&sum, &signed_ends_of(term));
-    }
-    sum
-}
-
-fn plus(one: &Ends, other: &Ends) -> Ends
-    requires low { ¬ SumPasses (fraction_of one.now.low) (fraction_of other.now.low) }
-    requires high { ¬ SumPasses (fraction_of one.now.high) (fraction_of other.now.high) }
-    ensures { (l m h k : ℤ) → IsFrom one.now l h → IsFrom other.now m k → IsFrom result (l +ℤ m) (h +ℤ k) }
-{
-    Ends {
-        low: sum(one.low, other.low),
-        high: sum(one.high, other.high),
-    }
-}
-
-// The sum of two fractions that does not pass.
-fn sum(one: Frac, other: Frac) -> Frac
-    requires { ¬ SumPasses (fraction_of one) (fraction_of other) }
-    ensures { (n m : ℤ) → IsOver one n unit → IsOver other m unit → IsOver result (n +ℤ m) unit }
-{
-    match one.add(other) {
-        Ok(sum) => sum,
+    match reported(amount.value.to_frac(), amount.decimals, mode) {
+        Ok(interval) => interval,
         Err(_) => unreachable!(),
     }
 }
 
-// Whether the one is greater than the other.
-fn is_above(one: Frac, other: Frac) -> bool
-    ensures { (n m : ℤ) → IsOver one n unit → IsOver other m unit → (IsTrue result ↔ (m <ℤ n)) }
+// What a term may add to a sum.
+fn weighted(term: &Term, mode: Mode) -> Interval<Frac>
+    requires { IsSmallTerm term.now }
+    ensures numbers { Holds result (IsTermOf mode term.now) }
+    ensures units { AreUnits most result }
+    ensures some { IsSome result }
 {
-    one.compare(other).is_gt()
+    let interval = interval_of(term.amount, mode);
+    if !term.negative {
+        return interval;
+    }
+    match interval.scaled(Frac::one().neg()) {
+        Ok(turned) => turned,
+        Err(_) => unreachable!(),
+    }
+}
+
+// What the sum of the terms may be.
+fn sum_of(terms: &[Term], mode: Mode) -> Interval<Frac>
+    requires { All IsSmallTerm terms.now }
+    ensures { Holds result (IsSumOf mode terms.now) }
+{
+    let mut sum = nothing();
+    for term in terms {
+        sum = plus(&sum, &weighted(term, mode));
+    }
+    sum
+}
+
+// The interval of 0 alone.
+fn nothing() -> Interval<Frac>
+    ensures numbers { Holds result (λ x. SameNumber x (whole (pos 0))) }
+    ensures units { AreUnits 0 result }
+    ensures some { IsSome result }
+{
+    let zero = Frac::zero();
+    Interval {
+        low: End::Closed(zero),
+        high: End::Closed(zero),
+    }
+}
+
+// The sum of two intervals of few units.
+fn plus(one: &Interval<Frac>, other: &Interval<Frac>) -> Interval<Frac>
+    requires some { IsSome one.now }
+    requires others { IsSome other.now }
+    requires room { (n : ℕ) × (n + most < 2 ^ 127) × AreUnits n one.now × AreUnits most other.now }
+    ensures numbers { (x : Fraction) → HasNumber (numbers_of result) x
+        ↔ IsSumOfNumbers (numbers_of one.now) (numbers_of other.now) x }
+    ensures units { (n m : ℕ) → AreUnits n one.now → AreUnits m other.now → AreUnits (n + m) result }
+    ensures some { IsSome result }
+{
+    match one.plus(other) {
+        Ok(sum) => sum,
+        Err(_) => unreachable!(),
+    }
 }

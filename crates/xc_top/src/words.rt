@@ -1,13 +1,16 @@
 // The words of a command line.
 ghost use Rattle.std.specs.Prelude.{◌≡◌, option_map, string_bytes, map};
-ghost use Rattle.xc_top.specs.Words.{words_of, texts, is_file_word, is_name_word, is_signed, is_term_word, is_sum, are_terms, name_of, is_negative};
+ghost use Rattle.xc_top.specs.Words.{words_of, texts, mode_of, is_file_word, is_name_word, is_signed, is_term_word, is_sum, are_terms, name_of, is_negative};
 ghost use Rattle.xc_top.specs.Named.{named};
 
-use xc_report::split;
+use xc_interval::Mode;
+use xc_names::split;
 
 /// What the words of `sum` name.
 #[derive(Drop)]
 pub struct Sum<'a> {
+    /// How the report's values were made.
+    pub mode: Mode,
     /// The report's file.
     pub report: &'a str,
     /// The total's name, as `prefix:local`.
@@ -24,30 +27,34 @@ pub fn read_words(words: &[String]) -> Option<Sum<'_>>
     let (mode, words) = words.split_first()?;
     let (report, words) = words.split_first()?;
     let (total, terms) = words.split_first()?;
-    if !is_sum(
-        command.as_str(),
-        mode.as_str(),
-        report.as_str(),
-        total.as_str(),
-        terms,
-    ) {
+    if !is_sum(command.as_str(), report.as_str(), total.as_str(), terms) {
         return None;
     }
+    let mode = mode_of(mode.as_str())?;
     Some(Sum {
+        mode,
         report: report.as_str(),
         total: total.as_str(),
         terms,
     })
 }
 
-fn is_sum(command: &str, mode: &str, report: &str, total: &str, terms: &[String]) -> bool
-    ensures { result ≡ is_sum command.now mode.now report.now total.now (texts terms.now) }
+fn mode_of(word: &str) -> Option<Mode>
+    ensures { result ≡ mode_of word.now }
 {
-    command == "sum"
-        && mode == "rounding"
-        && is_file_word(report)
-        && is_name_word(total)
-        && are_terms(terms)
+    if word == "rounding" {
+        Some(Mode::Rounding)
+    } else if word == "truncation" {
+        Some(Mode::Truncation)
+    } else {
+        None
+    }
+}
+
+fn is_sum(command: &str, report: &str, total: &str, terms: &[String]) -> bool
+    ensures { result ≡ is_sum command.now report.now total.now (texts terms.now) }
+{
+    command == "sum" && is_file_word(report) && is_name_word(total) && are_terms(terms)
 }
 
 fn are_terms(terms: &[String]) -> bool

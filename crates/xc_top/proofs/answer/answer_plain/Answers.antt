@@ -1,7 +1,7 @@
 use Rattle.std.proofs.Common.{◌≡◌, map, sym, subst, rules}
 use Rattle.std.specs.Prelude.{All}
 use Rattle.xc_top.specs.Answer.{bindings_in}
-use Rattle.xc_top.specs.Ends.{IsSmallBinding}
+use Rattle.xc_top.specs.Small.{IsSmallBinding}
 use Rattle.xc_top.specs.Named.{named}
 use Rattle.xc_top.specs.Shown.{shown}
 use Rattle.xc_top.proofs.Small.{small_bindings}

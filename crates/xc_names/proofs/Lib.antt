@@ -1,0 +1,5 @@
+pub mod Bound
+pub mod Found
+pub mod Numbered
+pub mod Splits
+pub mod TextMaps

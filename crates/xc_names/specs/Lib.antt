@@ -1,0 +1,6 @@
+pub mod Expansion
+pub mod Laws
+pub mod Names
+pub mod Numbers
+pub mod PlainNames
+pub mod Prefixes

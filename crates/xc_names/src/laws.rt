@@ -1,0 +1,19 @@
+//! What the definitions of this crate say, in the words of names.
+//!
+//! Each function has an empty body: its contract is the law.
+ghost use Rattle.xc_names.specs.Laws.{SplitsWhereJoined, NumbersTellNames, NumbersArePlaces};
+
+/// A text splits exactly where it is two plain names joined by a colon, so in one way at most.
+pub fn splits_where_joined()
+    ensures { SplitsWhereJoined }
+{}
+
+/// Two names, one of which is in a list, have one number exactly where they are equal.
+pub fn numbers_tell_names()
+    ensures { NumbersTellNames }
+{}
+
+/// In a list without doubles, a name's number is the place at which it stands.
+pub fn numbers_are_places()
+    ensures { NumbersArePlaces }
+{}

@@ -1,0 +1,18 @@
+//! Expanded names and their numbers, what prefixes stand for, and the texts that name both.
+#![tactic(auto)]
+
+mod expanded;
+mod expansion;
+pub mod laws;
+mod names;
+mod numbers;
+mod plain_names;
+mod prefixes;
+#[cfg(test)]
+mod tests;
+
+pub use expanded::{Expanded, NameId};
+pub use expansion::{NameFault, expand};
+pub use names::Names;
+pub use plain_names::{around_colon, is_plain_name, split};
+pub use prefixes::Prefixes;

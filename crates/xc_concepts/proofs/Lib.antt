@@ -1,0 +1,11 @@
+pub mod Earlier
+pub mod Flat
+pub mod Gathered
+pub mod Inside
+pub mod Keeping
+pub mod Least
+pub mod Ranges
+pub mod Repeats
+pub mod OneChain
+pub mod Noted
+pub mod Walks

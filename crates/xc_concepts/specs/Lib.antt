@@ -1,0 +1,9 @@
+pub mod Chains
+pub mod Declarations
+pub mod Held
+pub mod Laws
+pub mod Lent
+pub mod Places
+pub mod References
+pub mod Rules
+pub mod Schemas

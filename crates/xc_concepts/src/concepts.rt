@@ -1,0 +1,180 @@
+ghost use Rattle.std.specs.Prelude.{◌≡◌, ◌⊎◌, [], true, None, Some, find, map, IfOk, IfErr, OnOk, OnErr, IfSome, option_map};
+ghost use Rattle.std.specs.Option.{option_copied};
+ghost use Rattle.xc_concepts.specs.Chains.{IsKind, concept_numbered, has_number};
+ghost use Rattle.xc_concepts.specs.Held.{AreHeld, IsWith, has_id, schema_of, number_by_id, is_typed, AreTyped};
+ghost use Rattle.xc_concepts.specs.Rules.{first_broken, has_file};
+ghost use Rattle.xc_concepts.specs.Schemas.{is_schema};
+ghost use Rattle.xc_names.specs.Names.{KeepsNumbers};
+
+use crate::fault::SchemaFault;
+use crate::kind::{Kind, kind_by};
+use crate::reading::read_schema;
+use crate::rules::first_broken;
+use crate::schema::{Concept, Schema};
+use crate::typed::{is_typed, listed, typed_numbers};
+use std::alloc::Global;
+use std::marker::Model;
+use xc_elements::Tree;
+use xc_frac::Memory;
+use xc_names::{NameId, Names};
+
+/// What the schemas of a taxonomy declare, in the order in which they are added.
+///
+/// Concepts, types and ids are lists that are searched.
+#[derive(Drop)]
+pub struct Concepts {
+    schemas: Vec<Schema>,
+    alloc: Global,
+}
+
+impl Model for Concepts {
+    ghost use Rattle.std.specs.Prelude.{List};
+    ghost use Rattle.xc_concepts.specs.declared.schema.Schema.{Schema};
+
+    ghost Value = { List Schema };
+
+    ghost view = { λ c. c.schemas.items };
+}
+
+impl Concepts {
+    /// No schemas.
+    pub fn new(alloc: Global) -> Concepts
+        ensures { result ≡ [] }
+    {
+        Concepts {
+            schemas: Vec::new(alloc),
+            alloc,
+        }
+    }
+
+    /// Adds what the schema of a file declares (XBRL 2.1, section 5.1).
+    ///
+    /// The tree's root is `schema` of XML Schema, which `is_schema` tells. `names` has the names of
+    /// the concepts so far under their numbers; it may gain names even where the schema is refused.
+    ///
+    /// `SameFile` comes exactly where a schema of this file name was added before. Else the nodes are
+    /// taken in the order of the document, and the first that breaks a rule gives the refusal, by the
+    /// first of these rules: `BadPrefix` where it has a `type` or `base` that is judged and that is
+    /// neither a plain name nor a text that `split` takes with a prefix in scope; `SameId` where an
+    /// earlier element has the same `id`; `SameConcept` where its concept was declared before. What
+    /// is judged: what names the type of a concept, and the first `base` at the path
+    /// `xs:simpleContent`, `xs:restriction` below a complex type that has a name. A refusal leaves
+    /// the concepts as they were.
+    pub fn add_schema(
+        &mut self,
+        names: &mut Names,
+        file: &str,
+        tree: &Tree,
+    ) -> Result<(), SchemaFault>
+        requires schema { is_schema tree.now ≡ true }
+        requires held { AreHeld self.old names.old }
+        ensures added { OnOk result (IsWith file.now tree.now self.old self.new) }
+        ensures sound { OnOk result (first_broken self.old file.now tree.now ≡ None) }
+        ensures fault { IfErr result (λ e. (e ≡ SchemaFault.Memory) ⊎ (first_broken self.old file.now tree.now ≡ Some e)) }
+        ensures unchanged { OnErr result (self.new ≡ self.old) }
+        ensures held { AreHeld self.new names.new }
+        ensures kept { KeepsNumbers names.old names.new }
+    {
+        if has_file(self.schemas.as_slice(), file) {
+            return Err(SchemaFault::SameFile);
+        }
+        if let Some(fault) = first_broken(self.alloc, self.schemas.as_slice(), tree)? {
+            return Err(fault);
+        }
+        let schema = read_schema(self.alloc, names, file, tree)?;
+        match self.schemas.push(schema) {
+            Ok(()) => Ok(()),
+            Err(_) => Err(SchemaFault::Memory),
+        }
+    }
+
+    /// The number of the concept that an id names in the schema of a file; None exactly where that
+    /// schema has no concept of that id.
+    pub fn by_id(&self, file: &str, id: &str) -> Option<NameId>
+        ensures { option_map (λ n. n.0) result ≡ number_by_id self.now file.now id.now }
+    {
+        let Some(schema) = schema_of(self.schemas.as_slice(), file) else {
+            return None;
+        };
+        match concept_with_id(schema.concepts.as_slice(), id) {
+            Some(concept) => Some(concept.number),
+            None => None,
+        }
+    }
+
+    /// The kind of a concept, by the chain of type names that begins with its own (XBRL 2.1, section
+    /// 5.1.1.3). A name that is no concept is Unknown.
+    pub fn kind(&self, concept: NameId) -> Kind
+        ensures { IsKind self.now concept.0 result }
+    {
+        let Some(concept) = concept_numbered(self.schemas.as_slice(), concept) else {
+            return Kind::Unknown;
+        };
+        match &concept.declared.first_type {
+            Some(first) => kind_by(self.schemas.as_slice(), first),
+            None => Kind::Other,
+        }
+    }
+
+    /// Whether a concept is a typed dimension (XBRL Dimensions 1.0, section 2.5.2.1). A name that is
+    /// no concept is not.
+    pub fn is_typed(&self, concept: NameId) -> bool
+        ensures { result ≡ is_typed self.now concept.0 }
+    {
+        is_typed(self.schemas.as_slice(), concept)
+    }
+
+    /// The numbers of the typed dimensions, each once and ascending.
+    pub fn typed(&self) -> Result<Vec<NameId>, Memory>
+        ensures { IfOk result (λ ids. AreTyped self.now (map (λ id. id.0) ids.items)) }
+    {
+        let numbers = typed_numbers(self.alloc, self.schemas.as_slice())?;
+        listed(self.alloc, &numbers)
+    }
+}
+
+fn has_file(schemas: &[Schema], file: &str) -> bool
+    ensures { result ≡ has_file schemas.now file.now }
+{
+    schemas.iter().any(|schema| file == schema.file.as_str())
+}
+
+fn schema_of<'a>(schemas: &'a [Schema], file: &str) -> Option<&'a Schema>
+    ensures { option_copied result ≡ schema_of schemas.now file.now }
+{
+    schemas.iter().find(|schema| file == schema.file.as_str())
+}
+
+fn concept_with_id<'a>(concepts: &'a [Concept], id: &str) -> Option<&'a Concept>
+    ensures { option_copied result ≡ find (has_id id.now) concepts.now }
+{
+    concepts.iter().find(|concept| has_id(concept, id))
+}
+
+fn has_id(concept: &Concept, id: &str) -> bool
+    ensures { result ≡ has_id id.now concept.now }
+{
+    match &concept.declared.id {
+        Some(text) => id == text.as_str(),
+        None => false,
+    }
+}
+
+// The concept with this number.
+fn concept_numbered(schemas: &[Schema], number: NameId) -> Option<&Concept>
+    ensures { option_copied result ≡ concept_numbered schemas.now number.0 }
+{
+    for schema in schemas {
+        let found = concept_in(schema.concepts.as_slice(), number);
+        if found.is_some() {
+            return found;
+        }
+    }
+    None
+}
+
+fn concept_in(concepts: &[Concept], number: NameId) -> Option<&Concept>
+    ensures { option_copied result ≡ find (has_number number.0) concepts.now }
+{
+    concepts.iter().find(|concept| concept.number.0 == number.0)
+}

@@ -1,0 +1,131 @@
+// The kinds of concepts, by chains of type names.
+ghost use Rattle.std.specs.Prelude.{◌≡◌, [], option_map, length};
+ghost use Rattle.std.specs.Option.{option_copied};
+ghost use Rattle.xc_concepts.specs.Chains.{is_decimal, is_item_type, type_named, base_name, kind_by_last, IsKindBy};
+ghost use Rattle.xc_concepts.specs.Declarations.{types_in};
+
+use crate::schema::{NamedType, Schema};
+use xc_names::Expanded;
+
+const INSTANCE_SPACE: &str = "http://www.xbrl.org/2003/instance";
+
+/// What a concept's type says of its values.
+#[derive(Clone, Copy, Debug, PartialEq, Eq)]
+pub enum Kind {
+    /// Its type is derived by restriction from a decimal item type of XBRL, so calculations apply to
+    /// it (XBRL 2.1, section 5.1.1.3).
+    Decimal,
+    /// Its type is another.
+    Other,
+    /// Its type was not found in the schemas that were handed in, or leads back to itself.
+    Unknown,
+}
+
+/// The kind by the chain of type names that begins with this one.
+///
+/// A chain that has more names than there are types has one of them twice, so it leads back to itself.
+pub(crate) fn kind_by(schemas: &[Schema], first: &Expanded) -> Kind
+    ensures { IsKindBy (types_in schemas.now) first.now result }
+{
+    let mut name = first;
+    let mut left = count_types(schemas);
+    while let Some(base) = base_name(schemas, name) {
+        if left == 0 {
+            return Kind::Unknown;
+        }
+        left -= 1;
+        name = base;
+    }
+    kind_of_last(schemas, name)
+}
+
+// How many types the schemas have.
+fn count_types(schemas: &[Schema]) -> u128
+    ensures { result ≡ length (types_in schemas.now) }
+{
+    let mut count: u128 = 0;
+    for schema in schemas {
+        count += schema.types.as_slice().len() as u128;
+    }
+    count
+}
+
+// The name of the base of the type with this name.
+fn base_name<'a>(schemas: &'a [Schema], name: &Expanded) -> Option<&'a Expanded>
+    ensures { option_map (λ n. n.now) result ≡ base_name (types_in schemas.now) name.now }
+{
+    if is_item_type(name) {
+        return None;
+    }
+    match type_named(schemas, name) {
+        Some(named) => named.base.as_ref(),
+        None => None,
+    }
+}
+
+// The kind by the last name of a chain that does not lead back to itself.
+fn kind_of_last(schemas: &[Schema], name: &Expanded) -> Kind
+    ensures { result ≡ kind_by_last (types_in schemas.now) [] name.now }
+{
+    if is_item_type(name) {
+        if is_decimal(name.local.as_str()) {
+            return Kind::Decimal;
+        }
+        return Kind::Other;
+    }
+    match type_named(schemas, name) {
+        Some(_) => Kind::Other,
+        None => Kind::Unknown,
+    }
+}
+
+fn is_item_type(name: &Expanded) -> bool
+    ensures { result ≡ is_item_type name.now }
+{
+    name.space.as_str() == INSTANCE_SPACE
+}
+
+// The item types of XBRL that are decimal.
+fn is_decimal(local: &str) -> bool
+    ensures { result ≡ is_decimal local.now }
+{
+    matches!(
+        local,
+        "decimalItemType"
+            | "monetaryItemType"
+            | "sharesItemType"
+            | "pureItemType"
+            | "integerItemType"
+            | "nonPositiveIntegerItemType"
+            | "negativeIntegerItemType"
+            | "longItemType"
+            | "intItemType"
+            | "shortItemType"
+            | "byteItemType"
+            | "nonNegativeIntegerItemType"
+            | "unsignedLongItemType"
+            | "unsignedIntItemType"
+            | "unsignedShortItemType"
+            | "unsignedByteItemType"
+            | "positiveIntegerItemType"
+    )
+}
+
+// The first type with this name.
+fn type_named<'a>(schemas: &'a [Schema], name: &Expanded) -> Option<&'a NamedType>
+    ensures { option_copied result ≡ type_named (types_in schemas.now) name.now }
+{
+    for schema in schemas {
+        let found = type_in(schema.types.as_slice(), name);
+        if found.is_some() {
+            return found;
+        }
+    }
+    None
+}
+
+fn type_in<'a>(types: &'a [NamedType], name: &Expanded) -> Option<&'a NamedType>
+    ensures { option_copied result ≡ type_named types.now name.now }
+{
+    types.iter().find(|named| named.name.is(name.space.as_str(), name.local.as_str()))
+}

@@ -1,0 +1,22 @@
+//! What the schemas of a taxonomy declare: concepts, whether they are decimal or typed, and the ids
+//! under which they are found.
+#![tactic(auto)]
+
+mod concepts;
+mod elements;
+mod fault;
+mod kind;
+pub mod laws;
+mod reading;
+mod references;
+mod rules;
+mod schema;
+#[cfg(test)]
+mod tests;
+mod typed;
+
+pub use concepts::Concepts;
+pub use elements::is_schema;
+pub use fault::SchemaFault;
+pub use kind::Kind;
+pub use schema::{Concept, Declared, NamedType, Schema};

@@ -1,0 +1,200 @@
+// The rules that a schema is held to, and the first that it breaks.
+ghost use Rattle.std.specs.Prelude.{◌≡◌, ◌<◌, ◌||◌, length, option_map, IfOk, IfSome};
+ghost use Rattle.std.specs.List.{list_any};
+ghost use Rattle.std.specs.Str.{bytes_eq};
+ghost use Rattle.xc_concepts.specs.Places.{places, first_place, first_given, least};
+ghost use Rattle.xc_concepts.specs.Rules.{nameless_at, nameless_fault, id_fault, concept_fault, is_nameless, id_at, repeats_id, repeats_concept, earlier, broken_at};
+ghost use Rattle.xc_concepts.specs.Lent.{is_text_of, is_concept_of};
+ghost use Rattle.xc_names.specs.Names.{is_named};
+
+use crate::elements::{count, target, text_at, top_name};
+use crate::fault::SchemaFault;
+use crate::reading::keep;
+use crate::references::{judged_at, type_name};
+use crate::schema::Schema;
+use std::alloc::Global;
+use xc_elements::Tree;
+use xc_frac::Memory;
+
+/// The first rule that a node of the document breaks.
+pub(crate) fn first_broken(
+    alloc: Global,
+    schemas: &[Schema],
+    tree: &Tree,
+) -> Result<Option<SchemaFault>, Memory>
+    ensures { IfOk result (λ fault. fault ≡ first_given (broken_at schemas.now tree.now) (places tree.now)) }
+{
+    let nameless = nameless_fault(first_nameless(tree));
+    let id = id_fault(first_repeated_id(alloc, tree)?);
+    let concept = concept_fault(first_repeated_concept(alloc, schemas, tree)?);
+    match earlier(earlier(nameless, id), concept) {
+        Some((_, fault)) => Ok(Some(fault)),
+        None => Ok(None),
+    }
+}
+
+fn nameless_fault(at: Option<u32>) -> Option<(u32, SchemaFault)>
+    ensures { result ≡ option_map nameless_fault at }
+{
+    at.map(|at| (at, SchemaFault::BadPrefix(at)))
+}
+
+fn id_fault(at: Option<u32>) -> Option<(u32, SchemaFault)>
+    ensures { result ≡ option_map id_fault at }
+{
+    at.map(|at| (at, SchemaFault::SameId(at)))
+}
+
+fn concept_fault(at: Option<u32>) -> Option<(u32, SchemaFault)>
+    ensures { result ≡ option_map concept_fault at }
+{
+    at.map(|at| (at, SchemaFault::SameConcept(at)))
+}
+
+// The fault of the earlier node, and at one node the first.
+fn earlier(
+    one: Option<(u32, SchemaFault)>,
+    other: Option<(u32, SchemaFault)>,
+) -> Option<(u32, SchemaFault)>
+    ensures { result ≡ earlier one other }
+{
+    match (one, other) {
+        (None, other) => other,
+        (Some(one), None) => Some(one),
+        (Some(one), Some(other)) => {
+            if other.0 < one.0 {
+                Some(other)
+            } else {
+                Some(one)
+            }
+        }
+    }
+}
+
+// The first node that has what is judged and names no type.
+fn first_nameless(tree: &Tree) -> Option<u32>
+    ensures { result ≡ first_place (is_nameless tree.now) (places tree.now) }
+{
+    let mut first = None;
+    for at in 0..count(tree) {
+        first = least(first, nameless_at(tree, at));
+    }
+    first
+}
+
+fn least(one: Option<u32>, other: Option<u32>) -> Option<u32>
+    ensures { result ≡ least one other }
+{
+    match (one, other) {
+        (None, other) => other,
+        (Some(one), None) => Some(one),
+        (Some(one), Some(other)) => Some(one.min(other)),
+    }
+}
+
+// The place of what is judged of a node, where it names no type.
+fn nameless_at(tree: &Tree, at: u32) -> Option<u32>
+    requires { at < length tree.now }
+    ensures place { result ≡ nameless_at tree.now at }
+    ensures within { IfSome result (λ p. p < length tree.now) }
+{
+    let Some(reference) = judged_at(tree, at) else {
+        return None;
+    };
+    if type_name(tree, reference).is_some() {
+        None
+    } else {
+        Some(reference.at)
+    }
+}
+
+// The first element whose `id` an earlier one has.
+fn first_repeated_id(alloc: Global, tree: &Tree) -> Result<Option<u32>, Memory>
+    ensures { IfOk result (λ at. at ≡ first_place (repeats_id tree.now) (places tree.now)) }
+{
+    let mut ids = Vec::new(alloc);
+    for at in 0..count(tree) {
+        let id = id_at(tree, at);
+        if has_text(ids.as_slice(), id) {
+            return Ok(Some(at));
+        }
+        keep(&mut ids, id)?;
+    }
+    Ok(None)
+}
+
+// The `id` of a node, whatever its element.
+fn id_at<'a>(tree: &'a Tree, at: u32) -> Option<&'a str>
+    requires { at < length tree.now }
+    ensures { option_map (λ id. id.now) result ≡ id_at tree.now at }
+{
+    text_at(tree, at, "id")
+}
+
+// The first node whose concept was declared before, in one of the schemas or at an earlier node.
+fn first_repeated_concept(
+    alloc: Global,
+    schemas: &[Schema],
+    tree: &Tree,
+) -> Result<Option<u32>, Memory>
+    ensures { IfOk result (λ at. at ≡ first_place (repeats_concept schemas.now tree.now) (places tree.now)) }
+{
+    let mut names = Vec::new(alloc);
+    for at in 0..count(tree) {
+        let name = top_name(tree, "element", at);
+        if is_taken(schemas, target(tree), names.as_slice(), name) {
+            return Ok(Some(at));
+        }
+        keep(&mut names, name)?;
+    }
+    Ok(None)
+}
+
+// Whether there is a local part, and a concept of this name is in one of the schemas or among these.
+fn is_taken(schemas: &[Schema], space: &str, locals: &[&str], local: Option<&str>) -> bool
+    ensures { result ≡ (is_concept_of schemas.now space.now local.entry || is_text_of locals.now local.entry) }
+{
+    has_concept(schemas, space, local) || has_text(locals, local)
+}
+
+// Whether there is a text and it is one of these.
+fn has_text(texts: &[&str], text: Option<&str>) -> bool
+    ensures { result ≡ is_text_of texts.now text.entry }
+{
+    match text {
+        Some(text) => contains(texts, text),
+        None => false,
+    }
+}
+
+fn contains(texts: &[&str], text: &str) -> bool
+    ensures { result ≡ list_any (λ t. bytes_eq text.now t.now) texts.now }
+{
+    texts.iter().any(|t| text == *t)
+}
+
+// Whether there is a local part and one of the schemas declares a concept of this name.
+fn has_concept(schemas: &[Schema], space: &str, local: Option<&str>) -> bool
+    ensures { result ≡ is_concept_of schemas.now space.now local.entry }
+{
+    match local {
+        Some(local) => is_declared(schemas, space, local),
+        None => false,
+    }
+}
+
+fn is_declared(schemas: &[Schema], space: &str, local: &str) -> bool
+    ensures { result ≡ list_any (λ s. list_any (λ c. is_named space.now local.now c.declared.name) s.concepts) schemas.now }
+{
+    schemas.iter().any(|schema| declares(schema, space, local))
+}
+
+fn declares(schema: &Schema, space: &str, local: &str) -> bool
+    ensures { result ≡ list_any (λ c. is_named space.now local.now c.declared.name) schema.now.concepts }
+{
+    schema
+        .concepts
+        .as_slice()
+        .iter()
+        .any(|concept| concept.declared.name.is(space, local))
+}

@@ -1,14 +1,16 @@
 // The declarations of namespaces that are in scope.
-ghost use Rattle.std.specs.Prelude.{◌≡◌, ◌≤◌, ◌-◌, ◌∷◌, [], IfOk, length, drop, option_map, option_and_then};
-ghost use Rattle.std.specs.Str.{chars};
+ghost use Rattle.std.specs.Prelude.{◌≡◌, ◌≤◌, ◌-◌, ◌∷◌, [], ℕ, List, IfOk, IsSome, cond, length, drop, option_map, option_and_then};
+ghost use Rattle.std.specs.Str.{bytes_eq, chars};
+ghost use Rattle.xc_elements.specs.Bindings.{place_in};
 ghost use Rattle.xc_elements.specs.Namespaces.{Binding, declares_prefix, declares_default, declared_prefix, nearest, space_under, element_space, attribute_space};
 ghost use Rattle.xc_elements.specs.Trees.{not_empty};
 ghost use Rattle.xc_elements.specs.Views.{lent, name_view};
 
 use crate::names::QualifiedName;
-use crate::texts::{is_nothing, same_text, spells};
+use crate::texts::{is_nothing, spells};
 use crate::trees::{DECLARATIONS_SPACE, XML_SPACE, not_empty};
 use std::alloc::{AllocError, Global};
+use std::collections::BTreeMap;
 use std::marker::Model;
 use xc_frac::Text;
 
@@ -17,22 +19,30 @@ use xc_frac::Text;
 pub(crate) struct BoundPrefix<'a> {
     prefix: &'a str,
     space: Text,
+    /// The place of the nearest declaration of this prefix outside it.
+    shadowed: Option<usize>,
 }
 
 /// All that is declared by the tags that are open, the nearest last.
+///
+/// An ordered map has the place of the nearest declaration of each prefix, so a look-up takes time
+/// in the logarithm of their number, however many a document declares.
 #[derive(Drop)]
 pub(crate) struct Scope<'a> {
     bindings: Vec<BoundPrefix<'a>>,
+    places: BTreeMap<&'a str, usize>,
 }
 
 impl<'a> Model for Scope<'a> {
     ghost use Rattle.std.specs.Prelude.{List, map, reverse};
     ghost use Rattle.xc_elements.specs.Namespaces.{Binding};
-    ghost use Rattle.xc_elements.specs.Bindings.{binding_view};
+    ghost use Rattle.xc_elements.specs.Bindings.{binding_view, IsIndexed};
 
     ghost Value = { List Binding };
 
     ghost view = { λ s. reverse (map binding_view s.bindings.items) };
+
+    ghost invariant = { λ s. IsIndexed s.places s.bindings.items };
 }
 
 impl<'a> Scope<'a> {
@@ -41,6 +51,7 @@ impl<'a> Scope<'a> {
     {
         Scope {
             bindings: Vec::new(alloc),
+            places: BTreeMap::new(alloc),
         }
     }
 
@@ -55,7 +66,13 @@ impl<'a> Scope<'a> {
     pub(crate) fn bind(&mut self, prefix: &'a str, space: Text) -> Result<(), AllocError>
         ensures { IfOk result (λ _. self.new ≡ record { prefix = chars prefix.now; space = space } ∷ self.old) }
     {
-        self.bindings.push(BoundPrefix { prefix, space })?;
+        self.bindings.reserve(1)?;
+        let shadowed = self.places.insert(prefix, self.bindings.len())?;
+        self.bindings.push_reserved(BoundPrefix {
+            prefix,
+            space,
+            shadowed,
+        });
         Ok(())
     }
 
@@ -63,22 +80,28 @@ impl<'a> Scope<'a> {
     pub(crate) fn leave(&mut self, outside: usize)
         ensures { self.new ≡ drop (length self.old - outside) self.old }
     {
-        self.bindings.truncate(outside);
+        while self.len() > outside {
+            self.leave_nearest();
+        }
+    }
+
+    /// Takes the nearest declaration back, so that the one that it shadows holds again.
+    fn leave_nearest(&mut self)
+        ensures { self.new ≡ drop 1 self.old }
+    {
+        if let Some(bound) = self.bindings.pop() {
+            give_back(&mut self.places, bound.prefix, bound.shadowed);
+        }
     }
 
     /// What the nearest declaration of a prefix sets it to.
     fn nearest(&self, prefix: &str) -> Option<&str>
         ensures { option_map (λ space. space.now) result ≡ nearest self.now (chars prefix.now) }
     {
-        let mut end = self.bindings.len();
-        while end > 0 {
-            end -= 1;
-            let bound = &self.bindings[end];
-            if same_text(bound.prefix, prefix) {
-                return Some(bound.space.as_str());
-            }
+        match self.places.get(prefix) {
+            Some(place) => Some(self.bindings[*place].space.as_str()),
+            None => None,
         }
-        None
     }
 
     /// The namespace of a prefix, or of the default.
@@ -116,6 +139,23 @@ impl<'a> Scope<'a> {
             Some("")
         } else {
             self.space_under(name.prefix)
+        }
+    }
+}
+
+/// Gives a prefix that has a place the one that it had before, or none.
+fn give_back<'a>(places: &mut BTreeMap<&'a str, usize>, prefix: &'a str, before: Option<usize>)
+    requires { IsSome (place_in places.old prefix.now) }
+    ensures { (other : List ℕ) → place_in places.new other ≡ cond (bytes_eq prefix.now other) before (place_in places.old other) }
+{
+    match before {
+        Some(place) => {
+            if let Some(kept) = places.get_mut(prefix) {
+                *kept = place;
+            }
+        }
+        None => {
+            places.remove(prefix);
         }
     }
 }

@@ -119,6 +119,11 @@ fn trees(rt: HostRuntime) -> Result<(), Fail> {
             "<xml:a xml:lang='de'/>",
             "- 1 {http://www.w3.org/XML/1998/namespace}a {http://www.w3.org/XML/1998/namespace}lang=de|;",
         ),
+        // a prefix that is set anew twice, and has its earlier namespaces again behind the elements that set it
+        (
+            "<a xmlns:p='u' xmlns:q='v'><b xmlns:p='w'><p:c xmlns:p='x'/><p:d/></b><p:e/><q:f/></a>",
+            "- 6 a {http://www.w3.org/2000/xmlns/}p=u {http://www.w3.org/2000/xmlns/}q=v|;0 4 b {http://www.w3.org/2000/xmlns/}p=w|;1 3 {x}c {http://www.w3.org/2000/xmlns/}p=x|;1 4 {w}d|;0 5 {u}e|;0 6 {v}f|;",
+        ),
         (
             "<a xmlns:xml='u' xml:x='1' xmlns:xmlns='v'/>",
             "- 1 a {http://www.w3.org/2000/xmlns/}xml=u {http://www.w3.org/XML/1998/namespace}x=1 {http://www.w3.org/2000/xmlns/}xmlns=v|;",
@@ -175,6 +180,10 @@ fn faults_of_trees(rt: HostRuntime) {
         ("<a p:x=''/>", TreeFault::NoSpace(0)),
         ("<xmlns:a/>", TreeFault::NoSpace(0)),
         ("<a><b xmlns:p='u'/><p:c/></a>", TreeFault::NoSpace(19)),
+        (
+            "<a><b xmlns:p='u'><c xmlns:p='v'/></b><p:d/></a>",
+            TreeFault::NoSpace(38),
+        ),
         (
             "<a xmlns:p=\"u\"><p:b xmlns:p=\"\"/></a>",
             TreeFault::NoSpace(15),
@@ -249,6 +258,64 @@ fn depth(rt: HostRuntime) -> Result<(), Fail> {
         fault_of(rt, empty.as_str().as_bytes()),
         Some(TreeFault::TooDeep(381))
     );
+    Ok(())
+}
+
+// Declarations of so many prefixes, each of a namespace that begins with the letter.
+fn declare(
+    alloc: Global,
+    document: &mut String,
+    letter: char,
+    count: usize,
+) -> Result<(), AllocError> {
+    for i in 0..count {
+        document.push_str(format!(in alloc; " xmlns:p{i}='{letter}{i}'")?.as_str())?;
+    }
+    Ok(())
+}
+
+// An empty tag for each prefix.
+fn empty_tags(alloc: Global, document: &mut String, count: usize) -> Result<(), AllocError> {
+    for i in 0..count {
+        document.push_str(format!(in alloc; "<p{i}:c/>")?.as_str())?;
+    }
+    Ok(())
+}
+
+// An element that declares so many prefixes, and in it one that sets each anew, with a tag for each in it and behind it.
+fn declaring(alloc: Global, count: usize) -> Result<String, AllocError> {
+    let mut document = String::new(alloc);
+    document.push_str("<a")?;
+    declare(alloc, &mut document, 'u', count)?;
+    document.push_str("><b")?;
+    declare(alloc, &mut document, 'v', count)?;
+    document.push('>')?;
+    empty_tags(alloc, &mut document, count)?;
+    document.push_str("</b>")?;
+    empty_tags(alloc, &mut document, count)?;
+    document.push_str("</a>")?;
+    Ok(document)
+}
+
+#[test]
+fn many_declarations(rt: HostRuntime) -> Result<(), Fail> {
+    let document = declaring(rt.alloc(), 200)?;
+    match read(rt, document.as_str().as_bytes()) {
+        Some(Ok(tree)) => {
+            assert_eq!(rt; tree.nodes().len(), 402);
+            for (number, node) in tree.nodes().iter().enumerate() {
+                let space = if number < 2 {
+                    String::new(rt.alloc())
+                } else if number < 202 {
+                    format!(in rt.alloc(); "v{}", number - 2)?
+                } else {
+                    format!(in rt.alloc(); "u{}", number - 202)?
+                };
+                assert_eq!(rt; node.space.as_str(), space.as_str(), "{number}");
+            }
+        }
+        _ => assert!(rt; false),
+    }
     Ok(())
 }
 

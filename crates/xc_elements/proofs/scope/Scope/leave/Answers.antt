@@ -1,11 +1,8 @@
-use Rattle.std.proofs.Common.{◌-◌, length, drop, ap, ◌∙◌}
-use Rattle.std.specs.Prelude.{map, reverse}
-use Rattle.xc_elements.specs.Bindings.{binding_view}
-use Rattle.xc_elements.proofs.StackLaws.{backward_take}
+use Rattle.std.proofs.Common.{◌<◌, ◌∙◌, length, arith}
+use Rattle.xc_elements.proofs.ScopeLaws.{leave_more}
 use Rattle.xc_elements.proofs.scope.Scope.leave.Goals as goal
 
-pub returns : goal.returns
-returns c =
-    ap (λ xs. reverse (map binding_view xs)) c.truncate.ensures.items
-    ∙ backward_take binding_view c.self.inside.bindings.items c.args.outside
-    ∙ ap (λ bs. drop (length bs - c.args.outside) bs) c.self.view_is
+pub loop-self-preserved : goal.loop-self-preserved
+loop-self-preserved c =
+    let inside : c.args.outside < length c.loop-self.self = omega (arith, c.loop-self-test.true, c.len.ensures) in
+    leave_more c.loop-self.self c.leave_nearest.new.self c.args.outside inside c.leave_nearest.ensures ∙ c.loop-self.invariant

@@ -9,3 +9,4 @@ pub mod Repeats
 pub mod OneChain
 pub mod Noted
 pub mod Walks
+pub mod Within

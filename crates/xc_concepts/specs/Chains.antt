@@ -1,5 +1,5 @@
 -- Chains of type names, and the kinds of concepts by the last of a chain: XBRL 2.1, section 5.1.1.3.
-use Rattle.std.specs.Prelude.{◌≡◌, ◌==◌, ◌++◌, ℕ, Bool, List, [], ◌∷◌, codes, find, Option, Some, None, option_and_then, MatchOption, if◌then◌else◌}
+use Rattle.std.specs.Prelude.{◌≡◌, ◌==◌, ◌++◌, ℕ, zero, suc, length, Bool, List, [], ◌∷◌, codes, find, Option, Some, None, option_map, option_and_then, MatchOption, if◌then◌else◌}
 use Rattle.std.specs.List.{list_any}
 use Rattle.std.specs.Option.{option_map_or}
 use Rattle.std.specs.Str.{bytes_eq}
@@ -63,6 +63,15 @@ pub record IsKindBy (types : List NamedType) (first : Expanded) (kind : Kind) : 
   pub chain : IsChain types [] (earlier ++ last ∷ [])
   pub decides : kind ≡ kind_by_last types earlier last
 
+-- the kind as it computes: of a chain in which at most so many names are followed by another
+abbrev pub kind_within : List NamedType → ℕ → Expanded → Kind
+kind_within types zero name = option_map_or (λ next. Unknown) (base_name types name) (kind_by_last types [] name)
+kind_within types (suc n) name = option_map_or (kind_within types n) (base_name types name) (kind_by_last types [] name)
+
+-- a chain that does not lead back to itself has at most as many such names as there are types
+abbrev pub kind_from : List NamedType → Expanded → Kind
+kind_from types first = kind_within types (length types) first
+
 -- the concept has this number
 abbrev pub has_number : ℕ → Concept → Bool
 has_number number c = c.number.0 == number
@@ -75,3 +84,7 @@ concept_numbered schemas number = find (has_number number) (concepts_in schemas)
 abbrev pub IsKind : List Schema → ℕ → Kind → Type 0
 IsKind schemas number kind = MatchOption (concept_numbered schemas number) (kind ≡ Unknown)
     (λ c. MatchOption c.declared.first_type (kind ≡ Other) (λ first. IsKindBy (types_in schemas) first kind))
+
+-- the same as it computes
+abbrev pub kind_of : List Schema → ℕ → Kind
+kind_of schemas number = option_map_or (λ c. option_map_or (kind_from (types_in schemas)) c.declared.first_type Other) (concept_numbered schemas number) Unknown

@@ -1,6 +1,6 @@
 ghost use Rattle.std.specs.Prelude.{◌≡◌, ◌⊎◌, [], true, None, Some, find, map, IfOk, IfErr, OnOk, OnErr, IfSome, option_map};
 ghost use Rattle.std.specs.Option.{option_copied};
-ghost use Rattle.xc_concepts.specs.Chains.{IsKind, concept_numbered, has_number};
+ghost use Rattle.xc_concepts.specs.Chains.{IsKind, concept_numbered, has_number, kind_of};
 ghost use Rattle.xc_concepts.specs.Held.{AreHeld, IsWith, has_id, schema_of, number_by_id, is_typed, AreTyped};
 ghost use Rattle.xc_concepts.specs.Rules.{first_broken, has_file};
 ghost use Rattle.xc_concepts.specs.Schemas.{is_schema};
@@ -105,7 +105,9 @@ impl Concepts {
     /// The kind of a concept, by the chain of type names that begins with its own (XBRL 2.1, section
     /// 5.1.1.3). A name that is no concept is Unknown.
     pub fn kind(&self, concept: NameId) -> Kind
-        ensures { IsKind self.now concept.0 result }
+        ensures chain { IsKind self.now concept.0 result }
+        // and as a function of the number
+        ensures computed { result ≡ kind_of self.now concept.0 }
     {
         let Some(concept) = concept_numbered(self.schemas.as_slice(), concept) else {
             return Kind::Unknown;

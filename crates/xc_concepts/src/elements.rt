@@ -33,8 +33,8 @@ fn is_schema_element(tree: &Tree, local: &str, at: u32) -> bool
     is_schema_node(local, &tree.nodes()[at as usize])
 }
 
-// The number of the node that it stands directly in.
-fn parent_of(tree: &Tree, at: u32) -> Option<u32>
+/// The number of the node that a node of the document stands directly in.
+pub fn parent_of(tree: &Tree, at: u32) -> Option<u32>
     requires { at < length tree.now }
     ensures parent { result ≡ parent_of tree.now at }
     ensures earlier { IfSome result (λ p. p < at) }
@@ -107,7 +107,7 @@ pub(crate) fn around(tree: &Tree, local: &str, at: u32) -> Option<u32>
 }
 
 /// How many nodes the document has.
-pub(crate) fn count(tree: &Tree) -> u32
+pub fn count(tree: &Tree) -> u32
     ensures { result ≡ length tree.now }
 {
     let nodes = tree.nodes();

@@ -1,7 +1,7 @@
 // The kinds of concepts, by chains of type names.
 ghost use Rattle.std.specs.Prelude.{◌≡◌, [], option_map, length};
 ghost use Rattle.std.specs.Option.{option_copied};
-ghost use Rattle.xc_concepts.specs.Chains.{is_decimal, is_item_type, type_named, base_name, kind_by_last, IsKindBy};
+ghost use Rattle.xc_concepts.specs.Chains.{is_decimal, is_item_type, type_named, base_name, kind_by_last, IsKindBy, kind_from};
 ghost use Rattle.xc_concepts.specs.Declarations.{types_in};
 
 use crate::schema::{NamedType, Schema};
@@ -25,7 +25,8 @@ pub enum Kind {
 ///
 /// A chain that has more names than there are types has one of them twice, so it leads back to itself.
 pub(crate) fn kind_by(schemas: &[Schema], first: &Expanded) -> Kind
-    ensures { IsKindBy (types_in schemas.now) first.now result }
+    ensures chain { IsKindBy (types_in schemas.now) first.now result }
+    ensures computed { result ≡ kind_from (types_in schemas.now) first.now }
 {
     let mut name = first;
     let mut left = count_types(schemas);

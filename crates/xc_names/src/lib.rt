@@ -10,9 +10,11 @@ mod plain_names;
 mod prefixes;
 #[cfg(test)]
 mod tests;
+mod wanted;
 
 pub use expanded::{Expanded, NameId};
 pub use expansion::{NameFault, expand};
 pub use names::Names;
 pub use plain_names::{around_colon, is_plain_name, split};
 pub use prefixes::Prefixes;
+pub use wanted::Wanted;

@@ -1,0 +1,6 @@
+pub mod Drawing
+pub mod Filtered
+pub mod Integers
+pub mod OneAnswer
+pub mod Paths
+pub mod Roles

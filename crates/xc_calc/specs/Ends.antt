@@ -1,0 +1,64 @@
+-- The locators at the ends of an arc element, and the concepts that they name.
+use Rattle.std.specs.Prelude.{◌==◌, ◌&&◌, ◌+◌, ℕ, Bool, nat_lt, List, [], ◌∷◌, codes, filter, length, Option, Some, None, option_map, option_and_then, if◌then◌else◌}
+use Rattle.std.specs.List.{list_any, position_or_len, before_first, after_first}
+use Rattle.std.specs.Option.{option_map_or}
+use Rattle.xc_calc.specs.Linkbases.{is_locator, xlink_at}
+use Rattle.xc_concepts.specs.Held.{number_by_id}
+use Rattle.xc_concepts.specs.Places.{places}
+use Rattle.xc_concepts.specs.declared.schema.Schema.{Schema}
+use Rattle.xc_elements.specs.Trees.{parent_of}
+use Rattle.xc_elements.specs.declared.nodes.Node.{Node}
+use Rattle.xc_names.specs.declared.expanded.NameId.{NameId}
+
+abbrev pub is_hash : ℕ → Bool
+is_hash byte = byte == 35
+
+abbrev pub is_slash : ℕ → Bool
+is_slash byte = byte == 47
+
+-- what stands before the first `#` of an href, and after it: RFC 3986, section 3.5
+abbrev pub around_hash : List ℕ → Option (List ℕ × List ℕ)
+around_hash href = if nat_lt (position_or_len is_hash href) (length href) then Some (before_first is_hash href, after_first is_hash href) else None
+
+-- what stands after the first `/`
+abbrev pub after_slash : List ℕ → Option (List ℕ)
+after_slash path = if nat_lt (position_or_len is_slash path) (length path) then Some (after_first is_slash path) else None
+
+-- what stands after the last `/`, and the whole where there is none: the longest end without a `/`
+abbrev pub file_name : List ℕ → List ℕ
+file_name [] = []
+file_name (byte ∷ bytes) = if list_any is_slash (byte ∷ bytes) then file_name bytes else byte ∷ bytes
+
+abbrev pub name_id : ℕ → NameId
+name_id number = record { 0 = number }
+
+-- the concept whose element has the id behind `#`, in the schema whose file has the name before it
+abbrev pub concept_by : List Schema → List ℕ × List ℕ → Option NameId
+concept_by schemas parts = option_map name_id (number_by_id schemas (file_name parts.0) parts.1)
+
+-- the concept that an href names: XBRL 2.1, section 3.5.3.7.2
+abbrev pub resolved : List Schema → List ℕ → Option NameId
+resolved schemas href = option_and_then (concept_by schemas) (around_hash href)
+
+-- the concept that a locator names
+abbrev pub located : List Schema → List Node → ℕ → Option NameId
+located schemas nodes at = option_and_then (resolved schemas) (xlink_at nodes at (codes "href"))
+
+-- the locators of an extended link with this label, in the order of the document
+abbrev pub locators : List Node → ℕ → List ℕ → List ℕ
+locators nodes link label = filter (is_locator nodes link label) (places nodes)
+
+-- the locators of the extended link around an arc element that one of its ends names; none where the end is missing
+abbrev pub end_of_link : List Node → Option (List ℕ) → ℕ → List ℕ
+end_of_link nodes label link = option_map_or (locators nodes link) label []
+
+abbrev pub end_at : List Node → ℕ → List ℕ → List ℕ
+end_at nodes at local = option_map_or (end_of_link nodes (xlink_at nodes at local)) (parent_of nodes at) []
+
+-- the source locators of an arc element: those whose label is its `xlink:from`
+abbrev pub sources : List Node → ℕ → List ℕ
+sources nodes at = end_at nodes at (codes "from")
+
+-- the target locators: those whose label is its `xlink:to`
+abbrev pub targets : List Node → ℕ → List ℕ
+targets nodes at = end_at nodes at (codes "to")

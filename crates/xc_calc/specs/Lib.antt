@@ -1,0 +1,9 @@
+pub mod Attributes
+pub mod Effective
+pub mod Ends
+pub mod Laws
+pub mod Linkbases
+pub mod Linked
+pub mod Networks
+pub mod Rules
+pub mod Wanted

@@ -1,0 +1,54 @@
+use xc_decimal::Decimal;
+use xc_elements::Attribute;
+use xc_frac::{Items, Text};
+use xc_names::NameId;
+
+/// Which arcs count: those with the arcrole of Calculations 1.1, or those with the one of XBRL 2.1.
+#[derive(Clone, Copy, Debug, PartialEq, Eq)]
+pub enum ArcKind {
+    /// `https://xbrl.org/2023/arcrole/summation-item`.
+    New,
+    /// `http://www.xbrl.org/2003/arcrole/summation-item`.
+    Old,
+}
+
+/// An arc from a total to a contributor.
+#[derive(Clone, Copy, Debug)]
+pub struct Arc {
+    /// The total.
+    pub from: NameId,
+    /// The contributor.
+    pub to: NameId,
+    /// It is not 0.
+    pub weight: Decimal,
+}
+
+/// The effective arcs of one role.
+#[derive(Debug, Drop)]
+pub struct Network {
+    /// The role's URI; empty where an extended link has none.
+    pub role: Text,
+    /// In reading order; there is one at least.
+    pub arcs: Items<Arc>,
+}
+
+/// What an arc is for: XBRL 2.1, section 3.5.3.9.7.1.
+#[derive(Clone, Copy, Debug, PartialEq, Eq)]
+pub enum Use {
+    Optional,
+    /// It stands against the equivalent arcs of its priority and of lower ones.
+    Prohibited,
+}
+
+/// An arc as a linkbase has it, whether or not it is effective.
+#[derive(Debug, Drop)]
+pub struct ListedArc {
+    /// The role of its extended link.
+    pub role: Text,
+    pub arc: Arc,
+    pub order: Decimal,
+    /// The attributes of its element that are compared as texts where arcs are compared.
+    pub others: Items<Attribute>,
+    pub priority: i64,
+    pub usage: Use,
+}

@@ -1,0 +1,89 @@
+// The locators at the ends of an arc element, and the concepts that they name.
+ghost use Rattle.std.specs.Prelude.{◌≡◌, ◌<◌, length, option_map, IfOk};
+ghost use Rattle.xc_calc.specs.Ends.{around_hash, after_slash, file_name, resolved, located, locators, end_at};
+ghost use Rattle.xc_names.specs.PlainNames.{pair_view};
+
+use crate::elements::{is_locator, xlink_at};
+use std::alloc::Global;
+use xc_concepts::{Concepts, count, parent_of};
+use xc_elements::Tree;
+use xc_frac::Memory;
+use xc_names::NameId;
+
+// What stands before the first `#` of an href, and after it.
+fn around_hash(href: &str) -> Option<(&str, &str)>
+    ensures { option_map pair_view result ≡ around_hash href.now }
+{
+    match href.split_once('#') {
+        Some((before, after)) => Some((before, after)),
+        None => None,
+    }
+}
+
+fn after_slash(path: &str) -> Option<&str>
+    ensures { option_map (λ text. text.now) result ≡ after_slash path.now }
+{
+    match path.split_once('/') {
+        Some((_, after)) => Some(after),
+        None => None,
+    }
+}
+
+// What stands after the last `/`.
+fn file_name(path: &str) -> &str
+    ensures { result.now ≡ file_name path.now }
+{
+    let mut name = path;
+    while let Some(after) = after_slash(name) {
+        name = after;
+    }
+    name
+}
+
+// The concept that an href names.
+fn resolved(concepts: &Concepts, href: &str) -> Option<NameId>
+    ensures { result ≡ resolved concepts.now href.now }
+{
+    let Some((path, id)) = around_hash(href) else {
+        return None;
+    };
+    concepts.by_id(file_name(path), id)
+}
+
+/// The concept that a locator names.
+pub(crate) fn located(tree: &Tree, concepts: &Concepts, at: u32) -> Option<NameId>
+    requires { at < length tree.now }
+    ensures { result ≡ located concepts.now tree.now at }
+{
+    match xlink_at(tree, at, "href") {
+        Some(href) => resolved(concepts, href),
+        None => None,
+    }
+}
+
+// The locators of an extended link with this label, in the order of the document.
+fn locators(alloc: Global, tree: &Tree, link: u32, label: &str) -> Result<Vec<u32>, Memory>
+    ensures { IfOk result (λ found. found.items ≡ locators tree.now link label.now) }
+{
+    let mut found = Vec::new(alloc);
+    for at in 0..count(tree) {
+        if is_locator(tree, link, label, at) {
+            found.push(at)?;
+        }
+    }
+    Ok(found)
+}
+
+/// The locators that one end of an arc element names, by the attribute of XLink with this local part.
+pub(crate) fn end_at(alloc: Global, tree: &Tree, at: u32, local: &str) -> Result<Vec<u32>, Memory>
+    requires { at < length tree.now }
+    ensures { IfOk result (λ found. found.items ≡ end_at tree.now at local.now) }
+{
+    let Some(link) = parent_of(tree, at) else {
+        return Ok(Vec::new(alloc));
+    };
+    match xlink_at(tree, at, local) {
+        Some(label) => locators(alloc, tree, link, label),
+        None => Ok(Vec::new(alloc)),
+    }
+}

@@ -1,0 +1,23 @@
+//! Calculation linkbases: the arcs that they hold over the concepts of schemas, and the networks of
+//! those that are effective.
+#![tactic(auto)]
+
+mod arc;
+mod arcs;
+mod attributes;
+mod drawn;
+mod effective;
+mod elements;
+mod ends;
+mod fault;
+pub mod laws;
+mod linked;
+mod networks;
+#[cfg(test)]
+mod tests;
+mod wanted;
+
+pub use arc::{Arc, ArcKind, ListedArc, Network, Use};
+pub use arcs::Arcs;
+pub use elements::is_linkbase;
+pub use fault::LinkFault;

@@ -4,6 +4,7 @@ pub mod Compared
 pub mod DeltaOrder
 pub mod FirstPlaces
 pub mod Inverses
+pub mod LeastCommons
 pub mod LowestTerms
 pub mod Orders
 pub mod WhiteSpace

@@ -7,7 +7,7 @@ ghost use Rattle.xc_frac.specs.Cleared.{IsCleared};
 ghost use Rattle.xc_model.specs.Width.{IsNarrow};
 
 // The greatest common divisor, by Euclid's algorithm.
-fn gcd(a: u128, b: u128) -> u128
+pub fn gcd(a: u128, b: u128) -> u128
     ensures { IsGcd a b result }
 {
     let mut x = a;

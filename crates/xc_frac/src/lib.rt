@@ -1,5 +1,5 @@
-//! Exact 128-bit fractions and numbers with an infinitely small part; and what serves all crates above: the
-//! types by which contracts see texts and lists, a list with an index, and the characters of XML 1.0.
+//! Exact 128-bit fractions and numbers with an infinitely small part; and what serves all crates above: least
+//! common multiples, the types by which contracts see texts and lists, a list with an index, and the characters of XML 1.0.
 #![tactic(auto)]
 
 pub mod characters;
@@ -11,6 +11,7 @@ mod integers;
 mod items;
 pub mod laws;
 mod memory;
+mod multiples;
 mod order;
 mod scalar_frac;
 #[cfg(test)]
@@ -25,6 +26,7 @@ pub use firsts::Firsts;
 pub use frac::Frac;
 pub use items::Items;
 pub use memory::Memory;
+pub use multiples::least_common;
 pub use text::Text;
 pub use white_space::trimmed;
 pub use wide::{Op, Wide};

@@ -128,3 +128,25 @@ fn first_places(rt: HostRuntime) -> Result<(), Fail> {
     assert_eq!(rt; firsts.as_slice(), [3, 5, 3, 7].as_slice());
     Ok(())
 }
+
+#[test]
+fn common_multiples(rt: HostRuntime) -> Result<(), Fail> {
+    let half = 1 << 127;
+    let cases = [
+        (1, 1, Some(1)),
+        (4, 6, Some(12)),
+        (20, 1, Some(20)),
+        (7, 5, Some(35)),
+        (half, half, Some(half)),
+        (half, half - 1, None),
+        (u128::MAX, 3, Some(u128::MAX)),
+        (u128::MAX, 2, None),
+    ];
+    for (left, right, want) in cases {
+        if left == 0 || right == 0 {
+            return Err(Fail::from("a case asks for a multiple of 0"));
+        }
+        assert_eq!(rt; least_common(left, right), want, "{left} and {right}");
+    }
+    Ok(())
+}

@@ -1,9 +1,10 @@
 -- A number found in a list is the place of an equal name.
-use Rattle.std.proofs.Common.{◌≡◌, ◌+◌, ℕ, suc, List, [], ◌∷◌, Bool, true, false, Option, Some, None, IsSome, cond, slice_get, refl, sym, ap, ◌∙◌, true≢false, add-zero, arith}
+use Rattle.std.proofs.Common.{◌≡◌, ◌+◌, ◌<◌, ℕ, suc, length, List, [], ◌∷◌, Bool, true, false, Option, Some, None, IsSome, cond, slice_get, refl, sym, ap, ◌∙◌, true≢false, add-zero, arith}
 use Rattle.std.proofs.lemmas.Slice.Eq.{bytes_eq-Decides}
 use Rattle.std.specs.List.{position_from}
 use Rattle.std.specs.Str.{bytes_eq}
 use Rattle.std.proofs.lemmas.Bool.{and_parts}
+use Rattle.std.proofs.lemmas.Option.{slice_get_within}
 use Rattle.xc_names.specs.Laws.{NumbersTellNames, NumbersArePlaces}
 use Rattle.xc_names.specs.Names.{name_of, is_named, number_of}
 use Rattle.xc_names.specs.declared.expanded.Expanded.{Expanded}
@@ -25,6 +26,10 @@ found_at t n k (x ∷ xs) e = by (t x) refl (found_at t (n + 1) k xs) e
     by false p later h =
         let rest = later h in
         record { from = suc rest.from; item = rest.item; place = omega (arith, rest.place); there = rest.there; passes = rest.passes }
+
+-- the number of a name is below how many there are
+pub number_within : (names : List Expanded) (s l : List ℕ) (n : ℕ) → number_of s l names ≡ Some n → n < length names
+number_within names s l n e = let f = found_at (is_named s l) 0 n names e in omega (arith, f.place, slice_get_within names f.from f.item f.there)
 
 -- names with equal parts are equal
 same_name : (s l : List ℕ) (name : Expanded) → is_named s l name ≡ true → name ≡ name_of s l

@@ -32,5 +32,5 @@ impl Expanded {
 }
 
 /// The number of a name: its place among the names of one `Names`, from 0.
-#[derive(Clone, Copy, Debug, PartialEq, Eq, PartialOrd, Ord)]
+#[derive(Clone, Copy, Debug, PartialEq, Eq, PartialOrd, Ord, Hash)]
 pub struct NameId(pub u64);

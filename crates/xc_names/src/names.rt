@@ -1,4 +1,4 @@
-ghost use Rattle.std.specs.Prelude.{◌≡◌, ◌<◌, [], List, Some, IfOk, OnOk, OnErr, length, slice_get, option_map};
+ghost use Rattle.std.specs.Prelude.{◌≡◌, ◌<◌, [], List, Some, IfSome, IfOk, OnOk, OnErr, length, slice_get, option_map};
 ghost use Rattle.xc_names.specs.Names.{number_of, with_name, AreNumbered, KeepsNumbers};
 
 use crate::expanded::{Expanded, NameId};
@@ -47,6 +47,7 @@ impl Names {
     /// The number of the name. A name that is not there yet goes last.
     pub fn number(&mut self, space: &str, local: &str) -> Result<NameId, Memory>
         ensures number { IfOk result (λ id. number_of space.now local.now self.new ≡ Some id.0) }
+        ensures within { IfOk result (λ id. id.0 < length self.new) }
         ensures names { OnOk result (self.new ≡ with_name space.now local.now self.old) }
         ensures kept { KeepsNumbers self.old self.new }
         ensures err { OnErr result (self.new ≡ self.old) }
@@ -65,6 +66,7 @@ impl Names {
     /// The number of the name; None exactly where it is not there.
     pub fn find(&self, space: &str, local: &str) -> Option<NameId>
         ensures number { option_map (λ id. id.0) result ≡ number_of space.now local.now self.now }
+        ensures within { IfSome result (λ id. id.0 < length self.now) }
         ensures numbered { AreNumbered self.now }
     {
         match number_in(&self.spaces, space, local) {

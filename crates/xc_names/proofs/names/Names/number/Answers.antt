@@ -1,5 +1,6 @@
 use Rattle.std.proofs.Common.{[], ◌∷◌, ◌++◌, ◌≡◌, ap, sym, subst, ◌∙◌, Some, None, cond, length, option_map}
 use Rattle.xc_names.specs.Names.{is_named, name_of, number_of, AreNumbered}
+use Rattle.xc_names.proofs.Found.{number_within}
 use Rattle.xc_names.proofs.Numbered.{number_after, number_of_new, numbered_after, pushed_keeps}
 use Rattle.xc_names.proofs.names.Names.number.Goals as goal
 
@@ -36,3 +37,6 @@ pub returns-clause-kept : goal.returns-clause-kept
 returns-clause-kept c = λ s l n e.
     ap (number_of s l) (grown c)
     ∙ pushed_keeps c.self.inside.names.items (name_of c.args.space.now c.args.local.now) s l n (ap (number_of s l) c.self.view_is ∙ e)
+
+pub returns-clause-within : goal.returns-clause-within
+returns-clause-within c = number_within _ c.args.space.now c.args.local.now _ (returns-clause-number c)

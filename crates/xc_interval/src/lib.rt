@@ -7,6 +7,7 @@ mod facts;
 mod interval;
 pub mod laws;
 mod mode;
+mod range;
 #[cfg(test)]
 mod tests;
 
@@ -14,3 +15,4 @@ pub use ends::End;
 pub use facts::reported;
 pub use interval::Interval;
 pub use mode::Mode;
+pub use range::Range;

@@ -1,10 +1,10 @@
 -- The arcs of arc elements, and the rules that these break, put together from their parts.
-use Rattle.std.proofs.Common.{◌≡◌, ◌<◌, ◌+◌, ◌-◌, ◌++◌, ℕ, zero, suc, List, [], ◌∷◌, Bool, true, false, All, Option, Some, None, length, filter, flat_map, if◌then◌else◌, refl, sym, ap, subst, ◌∙◌, arith, append-nil, append_assoc}
+use Rattle.std.proofs.Common.{◌≡◌, ◌<◌, ◌+◌, ◌++◌, ℕ, zero, suc, List, [], ◌∷◌, Bool, true, false, All, Option, Some, None, length, filter, flat_map, if◌then◌else◌, refl, ap, ◌∙◌, arith, append-nil}
 use Rattle.std.proofs.lemmas.Grind.{flat_map-append}
 use Rattle.std.proofs.lemmas.List.Elements.{All-nil, All-cons}
 use Rattle.std.specs.List.{range_with_len}
 use Rattle.std.specs.Option.{option_or, option_map_or}
-use Rattle.xc_calc.specs.Ends.{locators, end_of_link, end_at, sources, targets}
+use Rattle.xc_calc.specs.Ends.{end_of_link, end_at, sources, targets}
 use Rattle.xc_calc.specs.Linkbases.{is_locator, xlink_at}
 use Rattle.xc_calc.specs.Rules.{attribute_fault, ends_fault, locator_fault, arc_fault}
 use Rattle.xc_concepts.proofs.Ranges.{before_more}

@@ -1,5 +1,5 @@
 -- What passes a test among the places before one more.
-use Rattle.std.proofs.Common.{◌≡◌, ◌+◌, ◌++◌, ℕ, List, [], ◌∷◌, Bool, true, false, if◌then◌else◌, filter, refl, sym, ap, ◌∙◌, append-nil}
+use Rattle.std.proofs.Common.{◌≡◌, ◌+◌, ◌++◌, ℕ, [], ◌∷◌, Bool, true, false, if◌then◌else◌, filter, ap, ◌∙◌, append-nil}
 use Rattle.std.proofs.lemmas.List.Elements.{filter-append}
 use Rattle.xc_concepts.proofs.Ranges.{before_more}
 use Rattle.xc_concepts.specs.Places.{before}

@@ -1,5 +1,5 @@
 -- Whole numbers that are read are those that texts spell.
-use Rattle.std.proofs.Common.{◌≡◌, ◌≢◌, ◌<◌, ◌≤◌, ◌+◌, ◌-◌, ◌*◌, ◌^◌, ◌==◌, ◌&&◌, nat_lt, nat_le, ℕ, ℤ, pos, neg_ℤ, List, [], ◌∷◌, Bool, true, false, length, get_or, Option, Some, None, Result, Ok, Err, if◌then◌else◌, refl, sym, ap, ◌∙◌, arith, rules}
+use Rattle.std.proofs.Common.{◌≡◌, ◌<◌, ◌≤◌, ◌+◌, ◌-◌, ◌*◌, ◌^◌, ◌==◌, ◌&&◌, nat_lt, nat_le, ℕ, ℤ, pos, neg_ℤ, List, [], ◌∷◌, Bool, true, false, length, Option, Some, None, Result, Ok, Err, if◌then◌else◌, refl, ap, arith, rules}
 use Rattle.std.proofs.lemmas.Bool.{false≢true, eqb-true, eqb-false, and_from, and_parts}
 use Rattle.std.proofs.lemmas.Bool.Decides.{nat_tests}
 use Rattle.std.proofs.lemmas.Str.Parse.{IsNumeralModel, IsDigitsTest, FoldsDigits, numerals_by_fold, parse_signed_minus, parse_signed_plus, parse_signed_plain}
@@ -9,7 +9,6 @@ use Rattle.std.specs.List.{list_all}
 use Rattle.std.specs.Result.{OkIff}
 use Rattle.std.specs.Str.Parse.{ParsesSigned}
 use Rattle.xc_calc.specs.Attributes.{are_digits_up_to, signed_up_to, integer_of}
-use Rattle.xc_decimal.specs.Decimals.{signed}
 use Rattle.xc_decimal.specs.Digits.{AreDigits, behind, number_of}
 
 digits_test : IsDigitsTest AreDigits

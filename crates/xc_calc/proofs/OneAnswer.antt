@@ -10,7 +10,6 @@ use Rattle.std.specs.Str.{bytes_eq}
 use Rattle.std.specs.declared.cmp.Ordering.TheVariants.{Less}
 use Rattle.xc_calc.specs.Effective.{effective_arcs}
 use Rattle.xc_calc.specs.Networks.{arcs_of, AreNetworks}
-use Rattle.xc_calc.specs.declared.arc.Arc.{Arc}
 use Rattle.xc_calc.specs.declared.arc.ListedArc.{ListedArc}
 use Rattle.xc_calc.specs.declared.arc.Network.{Network}
 

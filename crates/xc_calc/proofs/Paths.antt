@@ -1,5 +1,5 @@
 -- What stands behind the last `/` of a text.
-use Rattle.std.proofs.Common.{◌≡◌, ◌<◌, ◌+◌, ◌==◌, ◌||◌, nat_lt, ℕ, suc, List, [], ◌∷◌, Bool, true, false, not, length, drop, Option, Some, None, if◌then◌else◌, cond, true≢false, refl, sym, ap, ◌∙◌, arith}
+use Rattle.std.proofs.Common.{◌≡◌, ◌<◌, ◌+◌, ◌||◌, nat_lt, ℕ, suc, List, [], ◌∷◌, Bool, true, false, not, length, drop, Some, None, if◌then◌else◌, cond, true≢false, refl, sym, ap, ◌∙◌, arith}
 use Rattle.std.proofs.lemmas.Bool.Decides.{nat_tests}
 use Rattle.std.specs.List.{list_any, position_or_len, after_first}
 use Rattle.xc_calc.specs.Ends.{is_slash, after_slash, file_name}

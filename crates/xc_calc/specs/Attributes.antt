@@ -1,5 +1,5 @@
 -- What the attributes of an arc element say: XBRL 2.1, sections 3.5.3.9 and 5.2.5.2.
-use Rattle.std.specs.Prelude.{◌≡◌, ◌==◌, ◌&&◌, ◌||◌, ◌^◌, ◌-◌, ℕ, ℤ, pos, Bool, true, false, not, nat_lt, nat_le, List, [], ◌∷◌, codes, filter, length, unsigned_abs, Option, Some, None, Result, Ok, Err, option_map, option_and_then, slice_get, if◌then◌else◌}
+use Rattle.std.specs.Prelude.{◌==◌, ◌&&◌, ◌||◌, ◌^◌, ◌-◌, ℕ, ℤ, pos, Bool, true, false, not, nat_lt, nat_le, List, [], ◌∷◌, codes, filter, length, unsigned_abs, Option, Some, None, Result, Ok, Err, option_and_then, slice_get, if◌then◌else◌}
 use Rattle.std.specs.Char.{is_ascii_digit}
 use Rattle.std.specs.List.{list_all}
 use Rattle.std.specs.Option.{option_map_or}
@@ -25,7 +25,7 @@ if_read (Err fault) = None
 abbrev pub decimal_of : List ℕ → Option Shortest
 decimal_of text = if_read (reading text)
 
--- the weight of an arc element, where it has a good one: XBRL 2.1, section 5.2.5.2.1
+-- the weight of an arc element, where it has a good one: XBRL 2.1, section 5.2.5.2
 abbrev pub weight_at : List Node → ℕ → Option Shortest
 weight_at nodes at = option_and_then decimal_of (plain_at nodes at (codes "weight"))
 
@@ -33,7 +33,7 @@ weight_at nodes at = option_and_then decimal_of (plain_at nodes at (codes "weigh
 abbrev pub is_zero : Shortest → Bool
 is_zero number = unsigned_abs number.digits == 0
 
--- the order of an arc element, where it has a good one or none; a missing one counts as 1: XBRL 2.1, section 3.5.3.9.5
+-- the order of an arc element, where it has a good one or none; a missing one counts as 1: XBRL 2.1, section 3.5.3.9
 abbrev pub order_of : Option (List ℕ) → Option Shortest
 order_of None = decimal_of (codes "1")
 order_of (Some text) = decimal_of text

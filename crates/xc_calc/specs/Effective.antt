@@ -1,9 +1,8 @@
 -- Arcs that are equivalent, and arcs that are effective: XBRL 2.1, sections 3.5.3.9.7.4 and 3.5.3.9.7.5.
-use Rattle.std.specs.Prelude.{◌==◌, ◌&&◌, ℕ, Bool, true, false, not, int_lt, List, take, filter_map, map, filter, Option, Some, None, option_and_then, slice_get, if◌then◌else◌}
+use Rattle.std.specs.Prelude.{◌==◌, ◌&&◌, ℕ, Bool, true, false, not, int_lt, List, take, filter_map, Option, Some, None, option_and_then, slice_get, if◌then◌else◌}
 use Rattle.std.specs.List.{list_any, list_all}
 use Rattle.std.specs.Ordering.{int_eq}
 use Rattle.std.specs.Str.{bytes_eq}
-use Rattle.xc_calc.specs.declared.arc.Arc.{Arc}
 use Rattle.xc_calc.specs.declared.arc.ListedArc.{ListedArc}
 use Rattle.xc_calc.specs.declared.arc.Use.{Use}
 use Rattle.xc_calc.specs.declared.arc.Use.TheVariants.{Optional, Prohibited}

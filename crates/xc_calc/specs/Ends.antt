@@ -1,5 +1,5 @@
 -- The locators at the ends of an arc element, and the concepts that they name.
-use Rattle.std.specs.Prelude.{◌==◌, ◌&&◌, ◌+◌, ℕ, Bool, nat_lt, List, [], ◌∷◌, codes, filter, length, Option, Some, None, option_map, option_and_then, if◌then◌else◌}
+use Rattle.std.specs.Prelude.{◌==◌, ℕ, Bool, nat_lt, List, [], ◌∷◌, codes, filter, length, Option, Some, None, option_map, option_and_then, if◌then◌else◌}
 use Rattle.std.specs.List.{list_any, position_or_len, before_first, after_first}
 use Rattle.std.specs.Option.{option_map_or}
 use Rattle.xc_calc.specs.Linkbases.{is_locator, xlink_at}
@@ -36,7 +36,7 @@ name_id number = record { 0 = number }
 abbrev pub concept_by : List Schema → List ℕ × List ℕ → Option NameId
 concept_by schemas parts = option_map name_id (number_by_id schemas (file_name parts.0) parts.1)
 
--- the concept that an href names: XBRL 2.1, section 3.5.3.7.2
+-- the concept that an href names: XBRL 2.1, section 3.5.3.7
 abbrev pub resolved : List Schema → List ℕ → Option NameId
 resolved schemas href = option_and_then (concept_by schemas) (around_hash href)
 

@@ -1,5 +1,5 @@
 -- The elements of a linkbase document: XBRL 2.1, section 3.5.
-use Rattle.std.specs.Prelude.{◌==◌, ◌&&◌, ℕ, Bool, false, List, [], codes, Option, option_map, unwrap_or, is_some, slice_get}
+use Rattle.std.specs.Prelude.{◌&&◌, ℕ, Bool, false, List, [], codes, Option, option_map, unwrap_or, is_some, slice_get}
 use Rattle.std.specs.Option.{option_map_or}
 use Rattle.std.specs.Str.{bytes_eq}
 use Rattle.xc_calc.specs.declared.arc.ArcKind.{ArcKind}
@@ -13,7 +13,7 @@ use Rattle.xc_frac.specs.Trimmed.{trimmed}
 abbrev pub link_space : List ℕ
 link_space = codes "http://www.xbrl.org/2003/linkbase"
 
--- the namespace of XLink: XLink 1.0, section 3.3
+-- the namespace of XLink 1.0
 abbrev pub xlink_space : List ℕ
 xlink_space = codes "http://www.w3.org/1999/xlink"
 
@@ -49,7 +49,7 @@ plain_at nodes at local = value_at nodes at [] local
 abbrev pub is_link : List Node → ℕ → Bool
 is_link nodes at = is_link_element nodes (codes "calculationLink") at && is_child nodes 0 at
 
--- the role of an extended link, empty where it has none: XBRL 2.1, section 3.5.3.3
+-- the role of an extended link, empty where it has none: XBRL 2.1, section 3.5.3
 abbrev pub role_at : List Node → ℕ → List ℕ
 role_at nodes link = unwrap_or (xlink_at nodes link (codes "role")) []
 

@@ -1,5 +1,5 @@
 -- The arcs of linkbases, in reading order: XBRL 2.1, sections 3.5.3.9 and 5.2.5.2.
-use Rattle.std.specs.Prelude.{◌++◌, ℕ, ℤ, Bool, List, [], map, flat_map, filter_map, Option, Some, None, option_map, option_and_then, if◌then◌else◌}
+use Rattle.std.specs.Prelude.{◌++◌, ℕ, ℤ, List, [], map, flat_map, filter_map, Option, option_map, option_and_then, if◌then◌else◌}
 use Rattle.std.specs.Option.{option_map_or}
 use Rattle.xc_calc.specs.Attributes.{weight_at, order_at, priority_at, use_at, others_at}
 use Rattle.xc_calc.specs.Ends.{located, sources, targets}
@@ -12,7 +12,6 @@ use Rattle.xc_concepts.specs.Places.{places}
 use Rattle.xc_concepts.specs.declared.schema.Schema.{Schema}
 use Rattle.xc_decimal.specs.Shortest.{Shortest}
 use Rattle.xc_elements.specs.Trees.{parent_of}
-use Rattle.xc_elements.specs.declared.nodes.Attribute.{Attribute}
 use Rattle.xc_elements.specs.declared.nodes.Node.{Node}
 use Rattle.xc_names.specs.declared.expanded.NameId.{NameId}
 

@@ -1,5 +1,5 @@
 -- The networks of effective arcs, by role: XBRL 2.1, section 3.5.3.9.7.3.
-use Rattle.std.specs.Prelude.{◌≡◌, ℕ, Bool, List, map, filter, All}
+use Rattle.std.specs.Prelude.{◌≡◌, ℕ, Bool, List, map, filter}
 use Rattle.std.specs.Borrow.{Bor}
 use Rattle.std.specs.Cmp.Lexicographic.{slice_cmp}
 use Rattle.std.specs.List.{list_any}

@@ -1,5 +1,5 @@
 -- The rules that the chosen arc elements of a linkbase are held to, and the first that one breaks.
-use Rattle.std.specs.Prelude.{◌++◌, ℕ, List, [], ◌∷◌, Option, Some, None, is_none, if◌then◌else◌}
+use Rattle.std.specs.Prelude.{◌++◌, ℕ, List, [], ◌∷◌, Option, Some, None, if◌then◌else◌}
 use Rattle.std.specs.Option.{option_or, option_map_or}
 use Rattle.xc_calc.specs.Attributes.{weight_at, is_zero, order_at, priority_at, use_at}
 use Rattle.xc_calc.specs.Ends.{located, sources, targets}
@@ -15,7 +15,7 @@ use Rattle.xc_concepts.specs.declared.schema.Schema.{Schema}
 use Rattle.xc_decimal.specs.Shortest.{Shortest}
 use Rattle.xc_elements.specs.declared.nodes.Node.{Node}
 
--- a weight has to be there, and must not be 0: XBRL 2.1, section 5.2.5.2.1
+-- a weight has to be there, and must not be 0: XBRL 2.1, section 5.2.5.2
 abbrev pub weight_fault : ℕ → Option Shortest → Option LinkFault
 weight_fault at None = Some (BadWeight at)
 weight_fault at (Some weight) = if is_zero weight then Some (ZeroWeight at) else None
@@ -25,7 +25,7 @@ abbrev pub missing : {X : Type 0} → LinkFault → Option X → Option LinkFaul
 missing fault None = Some fault
 missing fault (Some x) = None
 
--- an end without locators is a fault: XBRL 2.1, section 3.5.3.9.2
+-- an end without locators is a fault: XBRL 2.1, section 3.5.3.9
 abbrev pub end_fault : ℕ → List ℕ → Option LinkFault
 end_fault at [] = Some (NoLocator at)
 end_fault at (locator ∷ more) = None

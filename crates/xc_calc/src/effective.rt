@@ -1,5 +1,5 @@
 // Arcs that are equivalent, and arcs that are effective.
-ghost use Rattle.std.specs.Prelude.{◌≡◌, ◌<◌, ◌≤◌, length, map, take, IfOk};
+ghost use Rattle.std.specs.Prelude.{◌≡◌, ◌<◌, length, map, take, IfOk};
 ghost use Rattle.std.specs.List.{list_any, list_all};
 ghost use Rattle.xc_calc.specs.Effective.{is_same_number, is_same_attribute, are_among, are_same, is_equivalent, is_prohibited, is_higher, is_rival, is_barred_by, is_effective, effective_arcs};
 
@@ -98,16 +98,23 @@ fn some_rival(arcs: &[ListedArc], a: &ListedArc) -> bool
     arcs.iter().any(|b| is_rival(a, b))
 }
 
+// Whether an arc before this place of a list is equivalent and has the same priority.
+fn some_earlier(arcs: &[ListedArc], at: usize, a: &ListedArc) -> bool
+    requires { at < length arcs.now }
+    ensures { result ≡ list_any (is_rival a.now) (take at arcs.now) }
+{
+    some_rival(&arcs[..at], a)
+}
+
 // Whether the arc at this place of a list is effective. Every two arcs are compared.
 fn is_effective(arcs: &[ListedArc], at: usize, a: &ListedArc) -> bool
-    requires { at ≤ length arcs.now }
+    requires { at < length arcs.now }
     ensures { result ≡ is_effective arcs.now at a.now }
 {
-    let earlier = &arcs[..at];
     !is_prohibited(a.usage)
         && !some_higher(arcs, a)
         && !some_bar(arcs, a)
-        && !some_rival(earlier, a)
+        && !some_earlier(arcs, at, a)
 }
 
 /// The effective arcs of a list, in its order.

@@ -29,8 +29,8 @@ fn after_slash(path: &str) -> Option<&str>
     }
 }
 
-// What stands after the last `/`.
-fn file_name(path: &str) -> &str
+/// The name of a file without its folder: what stands after the last `/` of a path, or the whole where there is none.
+pub fn file_name(path: &str) -> &str
     ensures { result.now ≡ file_name path.now }
 {
     let mut name = path;

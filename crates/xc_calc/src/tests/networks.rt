@@ -85,6 +85,26 @@ fn two_arcs(rt: HostRuntime) -> Result<(), Fail> {
             "weight=\"1\" use=\"prohibited\" priority=\"+1\"",
             "r1 TA 1/0;",
         ),
+        (
+            "weight=\"1\" priority=\"3\"",
+            "weight=\"1\" use=\"prohibited\" priority=\"3\"",
+            "",
+        ),
+        (
+            "weight=\"1\" priority=\"-2\"",
+            "weight=\"1\" use=\"prohibited\" priority=\"-1\"",
+            "",
+        ),
+        (
+            "weight=\"1\" priority=\"-1\"",
+            "weight=\"1\" use=\"prohibited\" priority=\"-2\"",
+            "r1 TA 1/0;",
+        ),
+        (
+            "weight=\"1\" id=\"x\"",
+            "weight=\"1\" id=\"x\" title=\"y\" use=\"prohibited\"",
+            "r1 TA 1/0;",
+        ),
     ] {
         let text = linkbase(
             alloc,

@@ -1,13 +1,17 @@
 // What linkbases are refused for.
 use super::{
-    FIRST, MONEY, NEW_ROLE, OLD_ROLE, SECOND, TOTAL, add, concepts, linkbase, opened, push_arc,
-    push_link, spelled,
+    FIRST, MONEY, NEW_ROLE, OLD_ROLE, TOTAL, add, concepts, linkbase, opened, push_arc, push_link,
+    spelled,
 };
 use crate::{ArcKind, Arcs, LinkFault};
 use std::alloc::Global;
 use std::test::Fail;
+use xc_frac::Memory;
+use xc_names::NameId;
 
 const GOOD: &str = "order=\"1\" weight=\"1\"";
+
+const OTHER: (&str, &str) = ("U", "t.xsd#eg_U");
 
 // The fault of a linkbase over the schema in which T has this type.
 fn fault(
@@ -199,29 +203,66 @@ fn arcs_of_the_other_arcrole(rt: HostRuntime) -> Result<(), Fail> {
     Ok(())
 }
 
+fn push_many(text: &mut String, attributes: &str) -> Result<(), Memory> {
+    for _ in 0..20 {
+        push_arc(text, NEW_ROLE, "U", "A", attributes)?;
+    }
+    Ok(())
+}
+
+// A linkbase of many arcs, of which the one in the middle has these ends and attributes. The locators
+// have the nodes 2 to 5, and the arc in the middle has the node 26.
+fn around(alloc: Global, middle: (&str, &str, &str)) -> Result<String, Memory> {
+    let mut text = opened(alloc)?;
+    push_link(&mut text, "r1", &[TOTAL, OTHER, FIRST, ("Z", "t.xsd#eg_Z")])?;
+    push_many(&mut text, "order=\"1\" weight=\"1\" use=\"prohibited\"")?;
+    push_arc(&mut text, NEW_ROLE, middle.0, middle.1, middle.2)?;
+    push_many(&mut text, "weight=\"2\"")?;
+    text.push_str("</link:calculationLink>\n</link:linkbase>\n")?;
+    Ok(text)
+}
+
+// A refusal in the middle of a linkbase leaves the arcs, effective or not, as they were.
 #[test]
 fn arcs_after_a_refusal(rt: HostRuntime) -> Result<(), Fail> {
     let alloc = rt.alloc();
-    let concepts = concepts(alloc, MONEY)?;
-    let mut arcs = Arcs::new(alloc, ArcKind::New);
-    let good = linkbase(alloc, "r1", &[TOTAL, FIRST], &[("T", "A", GOOD)])?;
-    let bad = linkbase(
-        alloc,
-        "r1",
-        &[TOTAL, FIRST, SECOND],
-        &[
-            ("T", "B", GOOD),
-            ("A", "B", GOOD),
-            ("T", "A", "weight=\"1\" use=\"prohibited\""),
-            ("T", "A", "weight=\"2\" use=\"never\""),
-        ],
-    )?;
-    assert_eq!(rt; add(alloc, &mut arcs, &concepts, good.as_str()), Ok(()));
-    assert_eq!(rt;
-        add(alloc, &mut arcs, &concepts, bad.as_str()),
-        Err(LinkFault::BadUse(8))
-    );
-    let networks = arcs.effective()?;
-    assert_eq!(rt; spelled(alloc, networks.as_slice())?.as_str(), "r1 TA 1/0;");
+    for (type_name, middle, answer) in [
+        (MONEY, ("U", "A", ""), LinkFault::BadWeight(26)),
+        (MONEY, ("U", "A", "weight=\"0\""), LinkFault::ZeroWeight(26)),
+        (
+            MONEY,
+            ("U", "A", "weight=\"1\" order=\"x\""),
+            LinkFault::BadOrder(26),
+        ),
+        (
+            MONEY,
+            ("U", "A", "weight=\"1\" priority=\"x\""),
+            LinkFault::BadPriority(26),
+        ),
+        (
+            MONEY,
+            ("U", "A", "weight=\"1\" use=\"x\""),
+            LinkFault::BadUse(26),
+        ),
+        (MONEY, ("U", "X", GOOD), LinkFault::NoLocator(26)),
+        (MONEY, ("U", "Z", GOOD), LinkFault::Unresolved(5)),
+        ("xs:string", ("U", "T", GOOD), LinkFault::UnknownType(2)),
+        (
+            "xbrli:stringItemType",
+            ("T", "Z", GOOD),
+            LinkFault::NodeNotDecimal(2),
+        ),
+    ] {
+        let concepts = concepts(alloc, type_name)?;
+        let mut arcs = Arcs::new(alloc, ArcKind::New);
+        let good = linkbase(alloc, "r1", &[OTHER, FIRST], &[("U", "A", GOOD)])?;
+        let bad = around(alloc, middle)?;
+        assert_eq!(rt; add(alloc, &mut arcs, &concepts, good.as_str()), Ok(()));
+        assert_eq!(rt; add(alloc, &mut arcs, &concepts, bad.as_str()), Err(answer));
+        let networks = arcs.effective()?;
+        assert_eq!(rt; spelled(alloc, networks.as_slice())?.as_str(), "r1 UA 1/0;");
+        let wanted = arcs.wanted(&concepts)?;
+        assert_eq!(rt; wanted.nodes.as_slice(), [NameId(1), NameId(3)].as_slice());
+    }
     Ok(())
 }

@@ -1,4 +1,4 @@
-use Rattle.std.proofs.Common.{◌∙◌, rules, sym}
+use Rattle.std.proofs.Common.{◌∙◌, rules}
 use Rattle.xc_calc.proofs.Paths.{name_after, name_alone}
 use Rattle.xc_calc.proofs.ends.file_name.Goals as goal
 

@@ -1,10 +1,9 @@
-use Rattle.std.proofs.Common.{◌≡◌, ◌^◌, ◌==◌, ◌*ℤ◌, ℕ, ℤ, pos, true, refl, sym, ap, subst}
+use Rattle.std.proofs.Common.{◌≡◌, ◌^◌, ◌==◌, ◌*ℤ◌, pos, true, refl, sym, subst}
 use Rattle.std.proofs.lemmas.Bool.{and_from, and_parts, eqb-true}
 use Rattle.std.proofs.lemmas.Bool.Decides.{Decides-eqb}
 use Rattle.std.specs.Cmp.{signed_Decides}
 use Rattle.std.specs.Ordering.{int_eq}
 use Rattle.xc_calc.specs.Effective.{is_same_number}
-use Rattle.xc_decimal.proofs.OneShortest.{one_shortest}
 use Rattle.xc_decimal.specs.Shortest.{Shortest, decimal_number}
 use Rattle.xc_model.specs.Fraction.{SameNumber}
 use Rattle.xc_calc.proofs.laws.numbers_agree.Goals as goal
@@ -20,4 +19,4 @@ itself : (d : Shortest) → is_same_number d d ≡ true
 itself d = and_from _ _ ((signed_Decides d.digits d.digits).1 refl) ((Decides-eqb d.places d.places).1 refl)
 
 pub returns : goal.returns
-returns c = λ d e. (same_number d e, λ same. subst (λ f. is_same_number d f ≡ true) ((one_shortest d e).0 same) (itself d))
+returns c = λ d e. (same_number d e, λ same. subst (λ f. is_same_number d f ≡ true) ((c.one_shortest.ensures d e).0 same) (itself d))

@@ -1,5 +1,4 @@
-use Rattle.std.proofs.Common.{◌≡◌, ◌++◌, drop, filter_map}
-use Rattle.xc_calc.specs.Ends.{located}
+use Rattle.std.proofs.Common.{◌≡◌, ◌++◌, drop}
 use Rattle.xc_calc.specs.Linked.{concepts_at}
 use Rattle.xc_calc.specs.Rules.{locator_fault}
 use Rattle.xc_concepts.specs.Places.{first_given}

@@ -1,4 +1,4 @@
-use Rattle.std.proofs.Common.{◌≡◌, map, IfOk, ap, sym, subst, ◌∙◌}
+use Rattle.std.proofs.Common.{◌≡◌, map, IfOk, ap, subst, ◌∙◌}
 use Rattle.xc_calc.proofs.Roles.{answer_networks}
 use Rattle.xc_calc.specs.Effective.{effective_arcs}
 use Rattle.xc_calc.specs.Networks.{some_role, arcs_of}

@@ -9,3 +9,15 @@ pub mod NotPlain
 pub mod Ascending
 pub mod Answered
 pub mod Amounts
+mod Listed
+mod Pieces
+mod KeyPlaces
+mod SameKeys
+mod Kept
+mod KeysDecide
+mod KeyOrder
+mod ReportFacts
+mod StatedIds
+mod KeyLaws
+mod KeyValues
+mod Examples

@@ -12,7 +12,7 @@ use Rattle.xc_report.specs.Names.{is_same_name}
 use Rattle.xc_report.specs.Keys.{is_same_key}
 use Rattle.xc_report.specs.Views.{name_view, key_view}
 use Rattle.xc_report.specs.declared.names.Name as lent_name
-use Rattle.xc_report.specs.declared.keys.Key as lent_key
+use Rattle.xc_report.specs.declared.plain_keys.Key as lent_key
 use Rattle.xc_model.proofs.Positions.{position_from_congr, position_from-map, position_or_len_congr, position_or_len-map}
 
 -- by local part, and then by URI

@@ -1,10 +1,17 @@
 -- What follows from the definitions, in the words of reports.
-use Rattle.std.specs.Prelude.{◌≡◌, ◌↔◌, ℕ, List, Some, Ok, Err, All, AllPairs, Contains, IsSome}
+use Rattle.std.specs.Prelude.{◌≡◌, ◌↔◌, ℕ, List, true, Some, Ok, Err, All, AllPairs, Contains, IsSome}
 use Rattle.serde_json.specs.Data.{Data, Members}
 use Rattle.xc_report.specs.Names.{expanded}
 use Rattle.xc_report.specs.Keys.{Key, member_list}
 use Rattle.xc_report.specs.Facts.{key_number, concept_of, content_of, node_of}
 use Rattle.xc_report.specs.Plain.{json_of, names_of, namespaces_of, facts_of, plain_answer}
+use Rattle.xc_report.specs.Dimensions.{IsAscending, HaveSameValues, is_same_dimension, is_same_key, in_order, key_number as number_of_key}
+use Rattle.std.specs.List.{IsDistinct}
+use Rattle.std.specs.Map.{keys_of}
+use Rattle.xc_report.specs.contracts.dimensions.KeyPartialEq.TheImpl as comparison
+use Rattle.xc_report.specs.declared.dimensions.Dimension.{Dimension}
+use Rattle.xc_report.specs.declared.dimensions.DimValue.{DimValue}
+use Rattle.xc_report.specs.declared.dimensions.Key.{Key as ReportKey}
 use Rattle.xc_report.specs.declared.plain.PlainFact.{PlainFact}
 use Rattle.xc_report.specs.declared.plain.Plain.{Plain}
 use Rattle.xc_report.specs.declared.plain.PlainFault.TheVariants.{NotYet}
@@ -37,3 +44,19 @@ pub record IsPlainReport (nodes : List (List ℕ)) (report : Data) (namespaces :
 abbrev pub NotYetWhereNotPlain : Type 0
 NotYetWhereNotPlain = (bytes : List ℕ) (nodes : List (List ℕ)) (report : Data) → json_of bytes ≡ Some report
     → (plain_answer bytes nodes ≡ Err NotYet) ↔ ¬ ((namespaces : Data) × (facts : Members) × IsPlainReport nodes report namespaces facts)
+
+-- keys are equal exactly where they have the same dimensions with equal values
+abbrev pub KeysTellValues : Type 0
+KeysTellValues = (a b : ReportKey) → IsAscending a → IsAscending b → (is_same_key a b ≡ true) ↔ HaveSameValues a b
+
+-- `==` answers that keys are equal exactly where they have the same dimensions with equal values
+abbrev pub ComparisonTellsValues : Type 0
+ComparisonTellsValues = (a b : ReportKey) → IsAscending a → IsAscending b → (comparison.eq-value.it a b ≡ true) ↔ HaveSameValues a b
+
+-- two of a report's keys have one number exactly where they are equal
+abbrev pub OneNumberAKey : Type 0
+OneNumberAKey = (keys : List ReportKey) (a b : ReportKey) → Contains keys a → Contains keys b → (number_of_key keys a ≡ number_of_key keys b) ↔ (a ≡ b)
+
+-- to put dimensions in order keeps the value of each, where none stands twice
+abbrev pub OrderKeepsValues : Type 0
+OrderKeepsValues = (parts : List (Dimension × DimValue)) → IsDistinct is_same_dimension (keys_of parts) → HaveSameValues (in_order parts) parts

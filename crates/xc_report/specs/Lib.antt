@@ -6,3 +6,16 @@ pub mod Plain
 pub mod Views
 pub mod Steps
 pub mod Laws
+pub mod Dimensions
+pub mod Drafts
+pub mod Each
+pub mod Numbered
+pub mod Opened
+pub mod Periods
+pub mod Prefixed
+pub mod Reads
+pub mod Reports
+pub mod Stated
+pub mod StatedFacts
+pub mod Units
+pub mod Wanted

@@ -3,7 +3,7 @@ use Rattle.xc_report.specs.Names.{Name}
 use Rattle.xc_report.specs.Keys.{Key}
 use Rattle.xc_report.specs.Facts.{Content, Stated, Named}
 use Rattle.xc_report.specs.declared.names.Name as lent_name
-use Rattle.xc_report.specs.declared.keys.Key as lent_key
+use Rattle.xc_report.specs.declared.plain_keys.Key as lent_key
 use Rattle.xc_report.specs.declared.facts.Content as lent_content
 use Rattle.xc_report.specs.declared.facts.Stated as lent_stated
 use Rattle.xc_report.specs.declared.facts.Named as lent_named

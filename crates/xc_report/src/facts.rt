@@ -5,10 +5,10 @@ ghost use Rattle.xc_report.specs.Facts.{dimensions_of, concept_of, value_of, con
 ghost use Rattle.xc_report.specs.Steps.{FactAnswers, FactsAnswers};
 ghost use Rattle.xc_report.specs.Views.{name_view, content_view, named_view};
 
-use crate::keys::{Key, key_of};
 use crate::names::{Name, expanded, text_at};
 use crate::nodes::place_of;
 use crate::plain::PlainFault;
+use crate::plain_keys::{Key, key_of};
 use crate::values::{plain_decimals, plain_value};
 use serde_json::{Map, Value};
 use std::alloc::Global;

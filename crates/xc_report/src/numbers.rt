@@ -5,8 +5,8 @@ ghost use Rattle.xc_report.specs.Views.{key_view, named_view};
 ghost use Rattle.xc_report.specs.declared.plain.PlainFault.{PlainFault};
 
 use crate::facts::Named;
-use crate::keys::Key;
 use crate::plain::{PlainFact, PlainFault};
+use crate::plain_keys::Key;
 use std::alloc::Global;
 use xc_frac::{Firsts, Text};
 

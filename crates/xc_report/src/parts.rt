@@ -53,7 +53,8 @@ pub fn facts_of(report: &Value) -> Option<&Map<String, Value>>
     report.get("facts").and_then(Value::as_object)
 }
 
-fn has_json_type(info: &Value) -> bool
+/// Whether the information of a report names the document type of xBRL-JSON 1.0.
+pub fn has_json_type(info: &Value) -> bool
     ensures { result ≡ has_json_type (view info.now) }
 {
     match text_at(info, "documentType") {
@@ -75,7 +76,8 @@ fn declared_in(info: &Value) -> Option<&Value>
     }
 }
 
-fn are_texts(value: &Value) -> bool
+/// Whether a value is an object of texts.
+pub fn are_texts(value: &Value) -> bool
     ensures { result ≡ are_texts (as_object (view value.now)) }
 {
     match value.as_object() {

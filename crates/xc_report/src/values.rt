@@ -69,7 +69,8 @@ fn small(decimals: i64) -> Option<i32>
     }
 }
 
-fn has_form(form: &[u8], text: &[u8]) -> bool
+/// Whether a text is as long as a form and has a digit at each `d` of it, and else the same bytes.
+pub fn has_form(form: &[u8], text: &[u8]) -> bool
     ensures { result ≡ has_form form.now text.now }
 {
     form.len() == text.len() && fits_places(form, text)

@@ -1,0 +1,19 @@
+-- Expanded names of texts with a prefix, by what prefixes stand for.
+use Rattle.std.specs.Prelude.{ℕ, List, Option, option_map, option_and_then}
+use Rattle.std.specs.FinMap.{get}
+use Rattle.xc_names.specs.Names.{name_of}
+use Rattle.xc_names.specs.PlainNames.{around_colon, split}
+use Rattle.xc_names.specs.Prefixes.{Bindings}
+use Rattle.xc_names.specs.declared.expanded.Expanded.{Expanded}
+
+-- the name of a prefix that is declared and a local part
+abbrev pub bound_name : Bindings → List ℕ × List ℕ → Option Expanded
+bound_name prefixes parts = option_map (λ uri. name_of uri parts.1) (get prefixes parts.0)
+
+-- the expanded name of two plain names joined by a colon, whose prefix is declared
+abbrev pub expanded : Bindings → List ℕ → Option Expanded
+expanded prefixes text = option_and_then (bound_name prefixes) (split text)
+
+-- the same of a text with a declared prefix before its first colon, and anything after it
+abbrev pub expanded_loosely : Bindings → List ℕ → Option Expanded
+expanded_loosely prefixes text = option_and_then (bound_name prefixes) (around_colon text)

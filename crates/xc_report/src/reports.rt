@@ -1,0 +1,99 @@
+// Whole reports: the facts of the concepts that are wanted, with the keys of their dimensions.
+ghost use Rattle.std.specs.Prelude.{◌≡◌};
+ghost use Rattle.xc_report.specs.declared.reports.ReportFault.TheVariants as ReportFault;
+
+use crate::dimensions::Key;
+use std::alloc::{AllocError, AllocFailed};
+use xc_decimal::Decimal;
+use xc_frac::{Items, Memory, Text};
+use xc_names::NameId;
+
+/// The value of a fact.
+#[derive(Clone, Copy, Debug, PartialEq, Eq)]
+pub enum Reading {
+    /// A decimal number.
+    Number(Decimal),
+    /// A decimal text whose digits exceed 2^126 in magnitude, or whose places exceed 37.
+    Wide,
+}
+
+/// A fact of a concept that is wanted.
+#[derive(Debug, Drop)]
+pub struct Fact {
+    /// The name of its member in `facts`.
+    pub id: Text,
+    /// The number of its concept.
+    pub concept: NameId,
+    /// The number of its key: its place among the report's keys.
+    pub key: u64,
+    /// Its value.
+    pub value: Reading,
+    /// None where the value is exact.
+    pub decimals: Option<i64>,
+}
+
+/// The facts of the concepts that are wanted and that are not nil.
+#[derive(Debug, Drop)]
+pub struct Report {
+    /// By id as bytes, ascending.
+    pub facts: Items<Fact>,
+    /// The keys of the facts, each once, in the order of their first facts.
+    pub keys: Items<Key>,
+}
+
+/// A part of a report that is missing, or is not of the type that it has to be.
+#[derive(Clone, Copy, Debug, PartialEq, Eq)]
+pub enum Member {
+    /// The JSON value is no object.
+    Root,
+    /// `documentInfo` is missing, or no object.
+    DocumentInfo,
+    /// `documentType` is missing, or not that of xBRL-JSON 1.0.
+    DocumentType,
+    /// `namespaces` is there, and is no object of texts.
+    Namespaces,
+    /// `facts` is there, and is no object.
+    Facts,
+}
+
+/// Why bytes are not read as a report.
+#[derive(Debug, Drop)]
+pub enum ReportFault {
+    /// Want of memory.
+    Memory,
+    /// The bytes are no JSON value in UTF-8.
+    NotJson,
+    /// The first part of the report that is not as it has to be.
+    NotReport(Member),
+    /// The fact of this id has no concept with a declared prefix, a dimension that is none, or one
+    /// dimension twice.
+    BadName(Text),
+    /// The value of the fact of this id is missing, or is neither null nor a decimal text.
+    BadValue(Text),
+    /// The decimals of the fact of this id are there, and are no whole number in the signed 64-bit range.
+    BadDecimals(Text),
+}
+
+impl From<AllocError> for ReportFault {
+    ghost from_gives = { λ _ e. e ≡ ReportFault.Memory };
+
+    fn from(_: AllocError) -> Self {
+        ReportFault::Memory
+    }
+}
+
+impl<T: Drop> From<AllocFailed<T>> for ReportFault {
+    ghost from_gives = { λ _ e. e ≡ ReportFault.Memory };
+
+    fn from(_: AllocFailed<T>) -> Self {
+        ReportFault::Memory
+    }
+}
+
+impl From<Memory> for ReportFault {
+    ghost from_gives = { λ _ e. e ≡ ReportFault.Memory };
+
+    fn from(_: Memory) -> Self {
+        ReportFault::Memory
+    }
+}

@@ -1,0 +1,48 @@
+-- A point has one range.
+use Rattle.std.proofs.Common.{List, refl, inl, inr}
+use Rattle.xc_interval.specs.Intervals.{Crosses, frac_parts, numbers_of, pairs_of, HasNoPair}
+use Rattle.xc_interval.specs.Laws.{EndsTell}
+use Rattle.xc_interval.specs.declared.ends.End.{End}
+use Rattle.xc_interval.specs.declared.ends.End.TheVariants.{Closed, Open}
+use Rattle.xc_interval.specs.declared.interval.Interval.{Interval}
+use Rattle.xc_interval.specs.declared.mode.Mode.{Mode}
+use Rattle.xc_interval.specs.declared.range.Range.TheVariants as range
+use Rattle.xc_model.specs.Fraction.{Fraction, SameNumber, IsBelow}
+use Rattle.xc_model.specs.Ratio.{Ratio}
+use Rattle.xc_points.specs.Gathered.{IsMet}
+use Rattle.xc_points.specs.Facts.{IsEmptyPoint}
+use Rattle.xc_points.specs.Laws.{HasOneRange}
+use Rattle.xc_points.specs.declared.types.Point.{Point}
+use Rattle.xc_report.specs.declared.reports.Fact.{Fact}
+
+-- ends that cross as numbers do so as pairs
+crosses_pairs : (e f : End Ratio) → Crosses IsBelow SameNumber (numbers_of (record { low = e; high = f })) → HasNoPair (pairs_of frac_parts (record { low = e; high = f }))
+crosses_pairs (Closed a) (Closed b) (inl below) = inl (inl below)
+crosses_pairs (Closed a) (Open b) (inl below) = inl (inl below)
+crosses_pairs (Open a) (Closed b) (inl below) = inl (inl below)
+crosses_pairs (Open a) (Open b) (inl below) = inl (inl below)
+crosses_pairs (Closed a) (Closed b) (inr same) = inr ((record { real = same.0; tiny = record { cross = refl } }), same.1)
+crosses_pairs (Closed a) (Open b) (inr same) = inr ((record { real = same.0; tiny = record { cross = refl } }), same.1)
+crosses_pairs (Open a) (Closed b) (inr same) = inr ((record { real = same.0; tiny = record { cross = refl } }), same.1)
+crosses_pairs (Open a) (Open b) (inr same) = inr ((record { real = same.0; tiny = record { cross = refl } }), same.1)
+
+-- where a number is met, the point is not empty
+met_some : (mode : Mode) (facts : List Fact) (point : Point) (i : Interval Ratio) → EndsTell IsBelow SameNumber → IsMet mode facts point i → IsEmptyPoint mode facts point → ⊥
+met_some mode facts point i tell met empty =
+    let some = (tell (numbers_of i)).1 (λ crosses. met.some (crosses_pairs i.low i.high crosses)) in
+    let x : Fraction = some.0 in
+    empty x.num x.den x.positive ((met.numbers x.num x.den x.positive).1 some.1)
+
+pub one_range : EndsTell IsBelow SameNumber → HasOneRange
+one_range tell mode facts point (range.Meets i) (range.Meets j) r s = λ x. (
+  (λ in_i. (s.numbers x.num x.den x.positive).0 ((r.numbers x.num x.den x.positive).1 in_i)),
+  (λ in_j. (r.numbers x.num x.den x.positive).0 ((s.numbers x.num x.den x.positive).1 in_j)),
+)
+one_range tell mode facts point (range.Meets i) range.Empty r s = met_some mode facts point i tell r s.1
+one_range tell mode facts point (range.Meets i) range.Wide r s = r.narrow s
+one_range tell mode facts point range.Empty (range.Meets j) r s = met_some mode facts point j tell s r.1
+one_range tell mode facts point range.Empty range.Empty r s = tt
+one_range tell mode facts point range.Empty range.Wide r s = r.0 s
+one_range tell mode facts point range.Wide (range.Meets j) r s = s.narrow r
+one_range tell mode facts point range.Wide range.Empty r s = s.0 r
+one_range tell mode facts point range.Wide range.Wide r s = tt

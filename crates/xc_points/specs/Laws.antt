@@ -1,0 +1,42 @@
+-- What follows from the definitions for all points.
+use Rattle.std.specs.Prelude.{◌≡◌, ℕ, List, Some, slice_get, ◌↔◌}
+use Rattle.xc_interval.specs.Intervals.{numbers_of, HasNumber}
+use Rattle.xc_interval.specs.declared.mode.Mode.{Mode}
+use Rattle.xc_interval.specs.declared.range.Range.{Range}
+use Rattle.xc_interval.specs.declared.range.Range.TheVariants as range
+use Rattle.xc_model.specs.Fraction.{Fraction}
+use Rattle.xc_points.specs.Gathered.{ArePoints, IsRange}
+use Rattle.xc_points.specs.Kept.{Gathered, HasFact}
+use Rattle.xc_points.specs.declared.types.Point.{Point}
+use Rattle.xc_report.specs.declared.reports.Fact.{Fact}
+
+-- the point has the concept and the key of the fact
+pub record IsPlaceOf (point : Point) (fact : Fact) : Type 0 where
+  pub concept : point.concept ≡ fact.concept
+  pub key : point.key ≡ fact.key
+
+-- each fact is one of a point that has its concept and its key
+abbrev pub HasPoint : Type 0
+HasPoint = (mode : Mode) (facts : List Fact) (gathered : Gathered) → ArePoints mode facts gathered → (f : ℕ) (fact : Fact) → slice_get facts f ≡ Some fact
+    → (k : ℕ) × (point : Point) × (slice_get gathered.points k ≡ Some point) × IsPlaceOf point fact × HasFact point f
+
+-- a point has facts with its concept and its key alone
+abbrev pub HasOwnFacts : Type 0
+HasOwnFacts = (mode : Mode) (facts : List Fact) (gathered : Gathered) → ArePoints mode facts gathered → (k : ℕ) (point : Point) → slice_get gathered.points k ≡ Some point
+    → (f : ℕ) → HasFact point f → (fact : Fact) × (slice_get facts f ≡ Some fact) × IsPlaceOf point fact
+
+-- two points have two concepts or two keys
+abbrev pub AreDistinct : Type 0
+AreDistinct = (mode : Mode) (facts : List Fact) (gathered : Gathered) → ArePoints mode facts gathered → (j k : ℕ) (p q : Point) → slice_get gathered.points j ≡ Some p → slice_get gathered.points k ≡ Some q
+    → p.concept ≡ q.concept → p.key ≡ q.key → j ≡ k
+
+-- two ranges are of one kind, and have the same numbers
+abbrev pub IsSameRange : Range → Range → Type 0
+IsSameRange (range.Meets i) (range.Meets j) = (x : Fraction) → HasNumber (numbers_of i) x ↔ HasNumber (numbers_of j) x
+IsSameRange range.Empty range.Empty = Unit {0}
+IsSameRange range.Wide range.Wide = Unit {0}
+IsSameRange r s = ⊥
+
+-- a point has one range
+abbrev pub HasOneRange : Type 0
+HasOneRange = (mode : Mode) (facts : List Fact) (point : Point) (r s : Range) → IsRange mode facts point r → IsRange mode facts point s → IsSameRange r s

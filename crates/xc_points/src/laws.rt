@@ -1,0 +1,20 @@
+//! What follows from the definitions for all points. The functions do nothing: code calls one where its proof needs
+//! the clauses.
+ghost use Rattle.xc_points.specs.Laws.{HasPoint, HasOwnFacts, AreDistinct, HasOneRange};
+
+use xc_interval::laws::ends_tell;
+
+/// The points are the distinct pairs of a concept and a key that the facts have: each fact is one of a point with its
+/// concept and its key, a point has no other facts, and no two points have the same ones.
+pub fn points_are_pairs()
+    ensures point { HasPoint }
+    ensures facts { HasOwnFacts }
+    ensures distinct { AreDistinct }
+{}
+
+/// The range of a point is decided by the mode and the facts: its kind, and of an interval its numbers.
+pub fn one_range()
+    ensures { HasOneRange }
+{
+    ends_tell();
+}

@@ -1,0 +1,8 @@
+mod Contributors
+mod Examples
+mod InOrder
+mod Judging
+mod Members
+mod OneAnswer
+mod PointPlaces
+mod RolesInOrder

@@ -1,0 +1,5 @@
+pub mod Bindings
+pub mod Grouped
+pub mod Judged
+pub mod Laws
+pub mod Places

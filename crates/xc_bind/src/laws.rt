@@ -1,0 +1,21 @@
+//! What the definitions of this crate say, in the words of arcs and points.
+//!
+//! Each function has an empty body: its contract is the law.
+ghost use Rattle.xc_bind.specs.Laws.{AreThose, GoByRole, HasOneAnswer};
+
+/// Where no two points have one concept and one key, the bindings are exactly these: of each network the
+/// points of whose concepts an arc leads to a concept that has a point with the same key, by network and then
+/// by total; and the terms of each are those of all such arcs, in reading order.
+pub fn bindings_are_those()
+    ensures { AreThose }
+{}
+
+/// A report has one list of bindings.
+pub fn bindings_are_one()
+    ensures { HasOneAnswer }
+{}
+
+/// Where the networks go by role as bytes, the bindings go by role as bytes and then by total.
+pub fn roles_ascend()
+    ensures { GoByRole }
+{}

@@ -1,0 +1,13 @@
+//! Calculation bindings: the totals of a report that are to be judged, each with its terms.
+#![tactic(auto)]
+
+mod arcs_from;
+mod bound;
+pub mod laws;
+mod point_index;
+#[cfg(test)]
+mod tests;
+mod types;
+
+pub use bound::bindings;
+pub use types::{Binding, Term, Verdict};

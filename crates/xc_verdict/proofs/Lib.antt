@@ -1,0 +1,14 @@
+mod Added
+mod AllMet
+mod Counted
+mod Examples
+mod Facts
+mod Found
+mod Judged
+mod Loops
+mod Narrow
+mod OneVerdict
+mod Saturating
+mod Scales
+mod Values
+mod Weighted

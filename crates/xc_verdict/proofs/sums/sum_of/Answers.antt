@@ -1,0 +1,49 @@
+use Rattle.std.proofs.Common.{◌≡◌, ◌+◌, [], ◌∷◌, drop, subst, arith}
+use Rattle.std.proofs.lemmas.Grind.{common_steps}
+use Rattle.xc_verdict.proofs.Added.{Summed, room_times, room_for, summed_none, summed_more, summed_all}
+use Rattle.xc_verdict.proofs.Loops.{next_term}
+use Rattle.xc_verdict.proofs.sums.sum_of.Goals as goal
+
+pub loop-term-init : goal.loop-term-init
+loop-term-init c = summed_none c.args.points.now c.args.binding.now c.nothing-sum.result c.requires.met c.nothing-sum.ensures.some c.nothing-sum.ensures.numbers c.nothing-sum.ensures.counted
+
+pub weighted-requires-clause-room : goal.weighted-requires-clause-room
+weighted-requires-clause-room c =
+    let points = c.args.points.now in
+    let binding = c.args.binding.now in
+    let terms = binding.terms in
+    let i = c.loop-term.term-index in
+    let term = c.term-item.result in
+    let next = subst (λ ts. drop i ts ≡ term ∷ drop (i + 1) ts) c.as_slice-term-items.ensures (next_term c.as_slice-term-items.result.now i term c.loop-term-test.true c.term-item.is) in
+    let so_far = subst (λ rest. Summed points binding rest c.loop-term.sum) next c.loop-term.invariant in
+    room_times points binding c.requires.narrow term (drop (i + 1) terms) c.loop-term.sum c.interval_at-interval.result (so_far.counts c.requires.narrow) c.interval_at-interval.ensures.is
+
+pub plus-sum-requires-clause-room : goal.plus-sum-requires-clause-room
+plus-sum-requires-clause-room c =
+    let points = c.args.points.now in
+    let binding = c.args.binding.now in
+    let terms = binding.terms in
+    let i = c.loop-term.term-index in
+    let term = c.term-item.result in
+    let next = subst (λ ts. drop i ts ≡ term ∷ drop (i + 1) ts) c.as_slice-term-items.ensures (next_term c.as_slice-term-items.result.now i term c.loop-term-test.true c.term-item.is) in
+    let so_far = subst (λ rest. Summed points binding rest c.loop-term.sum) next c.loop-term.invariant in
+    room_for points binding c.requires.narrow term (drop (i + 1) terms) c.loop-term.sum c.interval_at-interval.result (so_far.counts c.requires.narrow) c.interval_at-interval.ensures.is c.weighted.result c.weighted.ensures.counted
+
+pub loop-term-preserved : goal.loop-term-preserved
+loop-term-preserved c =
+    let points = c.args.points.now in
+    let binding = c.args.binding.now in
+    let terms = binding.terms in
+    let i = c.loop-term.term-index in
+    let term = c.term-item.result in
+    let next = subst (λ ts. drop i ts ≡ term ∷ drop (i + 1) ts) c.as_slice-term-items.ensures (next_term c.as_slice-term-items.result.now i term c.loop-term-test.true c.term-item.is) in
+    let so_far = subst (λ rest. Summed points binding rest c.loop-term.sum) next c.loop-term.invariant in
+    summed_more points binding term (drop (i + 1) terms) c.loop-term.sum c.interval_at-interval.result c.weighted.result c.plus-sum.result so_far c.interval_at-interval.ensures.is
+    c.weighted.ensures.numbers c.weighted.ensures.counted c.plus-sum.ensures.numbers c.plus-sum.ensures.counted c.plus-sum.ensures.some
+
+pub returns : goal.returns
+returns c =
+    let points = c.args.points.now in
+    let binding = c.args.binding.now in
+    let all : drop c.loop-term.term-index binding.terms ≡ [] = grind (arith, common_steps) in
+    summed_all points binding c.loop-term.sum (subst (λ rest. Summed points binding rest c.loop-term.sum) all c.loop-term.invariant)

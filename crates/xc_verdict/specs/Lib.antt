@@ -1,0 +1,7 @@
+pub mod Laws
+pub mod Ranges
+pub mod Saturated
+pub mod Scales
+pub mod Sums
+pub mod Verdicts
+pub mod Widths

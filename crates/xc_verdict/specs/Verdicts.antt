@@ -1,0 +1,74 @@
+-- The verdict of a binding, from the facts of the report alone (Calculations 1.1: the consistency of a binding calculation).
+use Rattle.std.specs.Prelude.{◌≡◌, ℕ, ℤ, pos, ◌+ℤ◌, ◌*ℤ◌, ◌-◌, ◌^◌, ◌<◌, ◌⊎◌, List, [], ◌∷◌, IsSomeAnd, slice_get}
+use Rattle.xc_bind.specs.declared.types.Binding.{Binding}
+use Rattle.xc_bind.specs.declared.types.Term.{Term}
+use Rattle.xc_bind.specs.declared.types.Verdict.{Verdict}
+use Rattle.xc_bind.specs.declared.types.Verdict.TheVariants.{Consistent, Inconsistent, Unjudged, TooWide}
+use Rattle.xc_decimal.specs.Shortest.{Shortest}
+use Rattle.xc_interval.specs.declared.mode.Mode.{Mode}
+use Rattle.xc_points.specs.Facts.{PointAdmits, IsWidePoint, IsEmptyPoint}
+use Rattle.xc_points.specs.declared.types.Point.{Point}
+use Rattle.xc_report.specs.declared.reports.Fact.{Fact}
+use Rattle.xc_verdict.specs.Ranges.{named, SomeHas}
+use Rattle.xc_verdict.specs.Widths.{most_places, IsNarrowBinding}
+
+-- a weight times 10 ^ places, which is a whole number where the weight has no more places
+abbrev pub whole_weight : ℕ → Shortest → ℤ
+whole_weight places weight = weight.digits *ℤ pos (10 ^ (places - weight.places))
+
+-- the sum of the terms' numbers, each times its weight times 10 ^ places
+abbrev pub weighted_sum : ℕ → List Term → List ℤ → ℤ
+weighted_sum places [] ps = pos 0
+weighted_sum places (term ∷ terms) [] = pos 0
+weighted_sum places (term ∷ terms) (p ∷ ps) = whole_weight places term.weight *ℤ p +ℤ weighted_sum places terms ps
+
+module _ (mode : Mode) (facts : List Fact) (points : List Point) where
+  -- all facts of point number k may stand for p/q
+  abbrev pub AdmitsAt : ℕ → ℤ → ℕ → Type 0
+  AdmitsAt k p q = IsSomeAnd (slice_get points k) (λ point. PointAdmits mode facts point p q)
+
+  -- one number for each term, of its own, which over q all facts of its point may stand for
+  abbrev pub TermsAdmit : List Term → List ℤ → ℕ → Type 0
+  TermsAdmit [] [] q = Unit {0}
+  TermsAdmit [] (p ∷ ps) q = ⊥
+  TermsAdmit (term ∷ terms) [] q = ⊥
+  TermsAdmit (term ∷ terms) (p ∷ ps) q = AdmitsAt term.point p q × TermsAdmit terms ps q
+
+  -- a fact of a point that the binding names is wide
+  abbrev pub HasWide : Binding → Type 0
+  HasWide binding = SomeHas (λ k. IsSomeAnd (slice_get points k) (λ point. IsWidePoint mode facts point)) (named binding)
+
+  -- for a point that the binding names, no number is admitted by all its facts
+  abbrev pub HasEmpty : Binding → Type 0
+  HasEmpty binding = SomeHas (λ k. IsSomeAnd (slice_get points k) (λ point. IsEmptyPoint mode facts point)) (named binding)
+
+  -- values exist, one that all facts of the total's point may stand for and one for each term that all facts of its point may
+  -- stand for, such that the total's is the sum of the terms', each times its weight: whole numbers over one positive number
+  pub record Agrees (binding : Binding) : Type 0 where
+    pub over : ℕ
+    pub positive : 0 < over
+    pub total : ℤ
+    pub values : List ℤ
+    pub total_admits : AdmitsAt binding.total total over
+    pub terms_admit : TermsAdmit binding.terms values over
+    pub adds : pos (10 ^ most_places binding.terms) *ℤ total ≡ weighted_sum (most_places binding.terms) binding.terms values
+
+  -- no fact is wide, no point is empty, and the binding is narrow
+  pub record CanBeJudged (binding : Binding) : Type 0 where
+    pub none_wide : ¬ HasWide binding
+    pub none_empty : ¬ HasEmpty binding
+    pub narrow : IsNarrowBinding points binding
+
+  -- no fact is wide and no point is empty, but the binding is not narrow
+  pub record PassesWidth (binding : Binding) : Type 0 where
+    pub none_wide : ¬ HasWide binding
+    pub none_empty : ¬ HasEmpty binding
+    pub passed : ¬ IsNarrowBinding points binding
+
+  -- the verdict of a binding, by the first of these that holds: a fact is wide, a point is empty, the binding is not narrow,
+  -- values exist that add up, and the rest
+  abbrev pub IsVerdict : Binding → Verdict → Type 0
+  IsVerdict binding TooWide = HasWide binding ⊎ PassesWidth binding
+  IsVerdict binding Unjudged = (¬ HasWide binding) × HasEmpty binding
+  IsVerdict binding Consistent = CanBeJudged binding × Agrees binding
+  IsVerdict binding Inconsistent = CanBeJudged binding × (¬ Agrees binding)

@@ -1,0 +1,25 @@
+-- What follows from the definitions for all texts and reports.
+use Rattle.std.specs.Prelude.{◌≡◌, ◌≢◌, ◌<◌, ℕ, List, [], All}
+use Rattle.std.specs.Str.{IsUtf8}
+use Rattle.xc_interval.specs.declared.mode.Mode.{Mode}
+use Rattle.xc_lines.specs.Findings.{CarryFacts}
+use Rattle.xc_lines.specs.Lines.{printed}
+use Rattle.xc_points.specs.Gathered.{ArePoints}
+use Rattle.xc_points.specs.Kept.{Gathered, AreKept}
+use Rattle.xc_report.specs.declared.reports.Fact.{Fact}
+
+-- a byte of a word: no control character and no space
+abbrev pub IsOfWord : ℕ → Type 0
+IsOfWord byte = (32 < byte) × (byte ≢ 127)
+
+-- a printed text is one word of its line: it has a byte, and no space, no line feed and no other control character
+abbrev pub PrintsOneWord : Type 0
+PrintsOneWord = (text : List ℕ) → IsUtf8 text → (printed text ≢ []) × All IsOfWord (printed text)
+
+-- texts that are printed alike are one text
+abbrev pub PrintsApart : Type 0
+PrintsApart = (a b : List ℕ) → IsUtf8 a → IsUtf8 b → printed a ≡ printed b → a ≡ b
+
+-- the numbers in the data points of a report are those of its facts
+abbrev pub PointsCarryFacts : Type 0
+PointsCarryFacts = (mode : Mode) (facts : List Fact) (gathered : Gathered) → ArePoints mode facts gathered → AreKept gathered.points gathered.ends → CarryFacts facts gathered.points

@@ -1,0 +1,14 @@
+//! The lines of an output: what is found of a report's bindings and data points, and what is said in place of it.
+#![tactic(auto)]
+
+mod found;
+pub mod laws;
+mod lines;
+mod texts;
+
+pub use found::findings;
+pub use lines::{placed_refusal_line, read_fault_line, refusal_line, usage_line};
+pub use texts::printed;
+
+#[cfg(test)]
+mod tests;

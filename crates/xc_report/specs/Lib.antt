@@ -1,14 +1,9 @@
-pub mod Names
-pub mod Values
-pub mod Keys
-pub mod Facts
-pub mod Plain
-pub mod Views
-pub mod Steps
-pub mod Laws
 pub mod Dimensions
 pub mod Drafts
 pub mod Each
+pub mod Forms
+pub mod Json
+pub mod Laws
 pub mod Numbered
 pub mod Opened
 pub mod Periods

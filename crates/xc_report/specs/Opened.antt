@@ -4,7 +4,7 @@ use Rattle.std.specs.FinMap.{insert, empty}
 use Rattle.serde_json.specs.Data.{Data, Members, no_members, member}
 use Rattle.serde_json.specs.Find.{get, as_str, as_object}
 use Rattle.xc_names.specs.Prefixes.{Bindings}
-use Rattle.xc_report.specs.Plain.{json_of, has_json_type, are_texts}
+use Rattle.xc_report.specs.Json.{json_of, has_json_type, are_texts}
 use Rattle.xc_report.specs.declared.reports.ReportFault.{ReportFault}
 use Rattle.xc_report.specs.declared.reports.ReportFault.TheVariants.{NotJson, NotReport}
 use Rattle.xc_report.specs.declared.reports.Member.{Member}

@@ -1,7 +1,7 @@
 -- Periods in their normal form (xBRL-JSON 1.0, the period dimension; the normal form is this project's own: a date stands for the start of its day).
 use Rattle.std.specs.Prelude.{ℕ, ◌==◌, ◌++◌, List, Bool, nat_lt, length, codes, is_some, Option, Some, None, if◌then◌else◌}
 use Rattle.std.specs.List.{position_or_len, before_first, after_first}
-use Rattle.xc_report.specs.Values.{has_form}
+use Rattle.xc_report.specs.Forms.{has_form}
 
 -- a slash
 abbrev pub is_slash : ℕ → Bool

@@ -7,7 +7,7 @@ use Rattle.serde_json.specs.Find.{as_null, as_str}
 use Rattle.xc_names.specs.Names.{is_named}
 use Rattle.xc_names.specs.Prefixes.{Bindings}
 use Rattle.xc_names.specs.declared.expanded.Expanded.{Expanded}
-use Rattle.xc_report.specs.Keys.{member_list}
+use Rattle.xc_report.specs.Json.{member_list}
 use Rattle.xc_report.specs.Periods.{normal_period}
 use Rattle.xc_report.specs.Prefixed.{expanded, expanded_loosely}
 use Rattle.xc_report.specs.Units.{unit, is_pure_alone}

@@ -11,8 +11,7 @@ use Rattle.serde_json.specs.Find.{get, as_null, as_str, as_number, as_i64, as_ob
 use Rattle.xc_names.specs.declared.expanded.Expanded.{Expanded}
 use Rattle.xc_names.specs.declared.expanded.NameId.{NameId}
 use Rattle.xc_names.specs.Prefixes.{Bindings}
-use Rattle.xc_report.specs.Keys.{member_list}
-use Rattle.xc_report.specs.Names.{text_at}
+use Rattle.xc_report.specs.Json.{member_list, text_at}
 use Rattle.xc_report.specs.Prefixed.{expanded}
 use Rattle.xc_report.specs.Stated.{parts_of}
 use Rattle.xc_report.specs.Wanted.{Known, node_of}

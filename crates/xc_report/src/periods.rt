@@ -3,7 +3,7 @@ ghost use Rattle.std.specs.Prelude.{◌≡◌, ◌++◌, codes, option_map, IfOk
 ghost use Rattle.xc_names.specs.PlainNames.{pair_view};
 ghost use Rattle.xc_report.specs.Periods.{around_slash, is_date, moment, normal_period};
 
-use crate::values::has_form;
+use crate::forms::has_form;
 use std::alloc::Global;
 use xc_frac::{Memory, Text};
 

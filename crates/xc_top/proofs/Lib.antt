@@ -1,9 +1,10 @@
-pub mod Added
-pub mod FewUnits
-pub mod Judged
+pub mod Fetched
+pub mod Judging
+pub mod Numbering
 pub mod OneAnswer
+pub mod Parts
+pub mod Placing
 pub mod Ran
-pub mod Scaled
-pub mod Small
-pub mod Sums
-pub mod Units
+pub mod Schemas
+pub mod Stops
+pub mod Told

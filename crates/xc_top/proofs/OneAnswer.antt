@@ -1,56 +1,70 @@
--- Words and files have one answer.
-use Rattle.std.proofs.Common.{◌≡◌, ℕ, List, [], ◌∷◌, length, Bool, true, false, Option, Some, None, Result, Ok, Err, nat_lt, refl, sym, ap, ◌∙◌}
-use Rattle.std.specs.Prelude.{MatchBool}
-use Rattle.xc_interval.specs.declared.mode.Mode.{Mode}
+-- Words and files have one answer, as far as documents have faults.
+use Rattle.std.proofs.Common.{◌≡◌, ◌≢◌, ◌⊎◌, ℕ, List, [], ◌∷◌, Option, Some, None, inl, inr, refl, sym, ap, subst, ◌∙◌}
+use Rattle.xc_elements.specs.DocumentTrees.{OneTree, TreeOrFault, OneFirstFault}
 use Rattle.xc_io.specs.Shelf.{Files}
-use Rattle.xc_report.specs.Plain.{plain_answer}
-use Rattle.xc_report.specs.declared.plain.Plain.{Plain}
-use Rattle.xc_report.specs.declared.plain.PlainFault.{PlainFault}
-use Rattle.xc_report.specs.declared.plain.PlainFault.TheVariants.{Memory, NotJson, NotYet, TwoFacts}
-use Rattle.xc_top.specs.Answer.{IsFindings, IsReportAnswer, IsFileAnswer, IsAnswer, bindings_in, make_answer, nodes_of, limit}
-use Rattle.xc_top.specs.Bindings.{SumBinding}
-use Rattle.xc_top.specs.Findings.{findings_of, status_of}
-use Rattle.xc_top.specs.Verdicts.{IsVerdict, AreVerdicts}
-use Rattle.xc_top.specs.Words.{SumWords}
+use Rattle.xc_top.specs.Answer.{IsAnswer, IsCommandAnswer}
+use Rattle.xc_top.specs.Checks.{IsDocumentsAnswer, IsCheckAnswer}
+use Rattle.xc_top.specs.Documents.{first_unfetched, first_unread, IsContentOf, IsDocumentOf, AreDocumentsOf}
+use Rattle.xc_top.specs.Laws.{DocumentsAreOne, HasUnread, IsUnread, HasEarlyFault}
+use Rattle.xc_top.specs.Words.{CommandWords, CheckWords, SumOf, CheckOf, file_words}
+use Rattle.xc_top.specs.declared.documents.Content.{Content}
+use Rattle.xc_top.specs.declared.documents.Content.TheVariants.{Elements, Broken}
+use Rattle.xc_top.specs.declared.documents.Document.{Document}
 use Rattle.xc_top.specs.declared.status.Answer.{Answer}
-use Rattle.xc_top.specs.declared.verdict.Verdict.{Verdict}
-use Rattle.xc_top.specs.declared.verdict.Verdict.TheVariants.{Consistent, Inconsistent}
 
-one_verdict : (mode : Mode) (binding : SumBinding) (one other : Verdict) → IsVerdict mode binding one → IsVerdict mode binding other → one ≡ other
-one_verdict mode binding Consistent Consistent h k = refl
-one_verdict mode binding Consistent Inconsistent h k = absurd (k h)
-one_verdict mode binding Inconsistent Consistent h k = absurd (h k)
-one_verdict mode binding Inconsistent Inconsistent h k = refl
+module _ (tree : OneTree) (fault : OneFirstFault) (either : TreeOrFault) where
+  one_content : (bytes : List ℕ) (one other : Content) → IsContentOf bytes one → IsContentOf bytes other → one ≡ other
+  one_content bytes (Elements a) (Elements b) h k = ap Elements (tree bytes a b h k)
+  one_content bytes (Elements a) (Broken f) h k = absurd (either bytes a f h k)
+  one_content bytes (Broken f) (Elements b) h k = absurd (either bytes b f k h)
+  one_content bytes (Broken f) (Broken g) h k = ap Broken (fault bytes f g h k)
 
-one_verdicts : (mode : Mode) (bindings : List SumBinding) (one other : List Verdict) → AreVerdicts mode bindings one → AreVerdicts mode bindings other → one ≡ other
-one_verdicts mode [] [] [] h k = refl
-one_verdicts mode [] [] (y ∷ other) h k = absurd k
-one_verdicts mode [] (x ∷ one) other h k = absurd h
-one_verdicts mode (binding ∷ bindings) [] other h k = absurd h
-one_verdicts mode (binding ∷ bindings) (x ∷ one) [] h k = absurd k
-one_verdicts mode (binding ∷ bindings) (x ∷ one) (y ∷ other) h k = ap (λ v. v ∷ one) (one_verdict mode binding x y h.0 k.0) ∙ ap (λ vs. y ∷ vs) (one_verdicts mode bindings one other h.1 k.1)
+  one_document : (files : Files) (word : List ℕ) (one other : Document) → IsDocumentOf files word one → IsDocumentOf files word other → one ≡ other
+  one_document files word one other h k =
+      let bytes : Some h.bytes ≡ Some k.bytes = sym h.held ∙ k.held in
+      let same : h.bytes ≡ k.bytes = cc in
+      let content : one.content ≡ other.content = one_content k.bytes one.content other.content (subst (λ bs. IsContentOf bs one.content) same h.content) k.content in
+      let word : one.word ≡ other.word = h.named ∙ sym k.named in
+      λ i. record { word = word i; content = content i }
 
-one_findings : (sum : SumWords) (plain : Plain) (one other : Answer) → IsFindings sum plain one → IsFindings sum plain other → one ≡ other
-one_findings sum plain one other h k =
-    let answer : List Verdict → Answer = λ vs. make_answer (status_of vs) (findings_of sum.mode (length plain.facts) (bindings_in sum plain) vs) in
-    h.is ∙ ap answer (one_verdicts sum.mode (bindings_in sum plain) h.verdicts k.verdicts h.are k.are) ∙ sym k.is
+  pub one_documents : (files : Files) (words : List (List ℕ)) (one other : List Document) → AreDocumentsOf files words one → AreDocumentsOf files words other → one ≡ other
+  one_documents files [] [] [] h k = refl
+  one_documents files [] [] (e ∷ es) h k = absurd k
+  one_documents files [] (d ∷ ds) other h k = absurd h
+  one_documents files (word ∷ words) [] other h k = absurd h
+  one_documents files (word ∷ words) (d ∷ ds) [] h k = absurd k
+  one_documents files (word ∷ words) (d ∷ ds) (e ∷ es) h k = ap (λ x. x ∷ ds) (one_document files word d e h.0 k.0) ∙ ap (λ xs. e ∷ xs) (one_documents files words ds es h.1 k.1)
 
-one_of_report : (sum : SumWords) (read : Result Plain PlainFault) (one other : Answer) → IsReportAnswer sum read one → IsReportAnswer sum read other → one ≡ other
-one_of_report sum (Ok plain) one other h k = one_findings sum plain one other h k
-one_of_report sum (Err NotJson) one other h k = h ∙ sym k
-one_of_report sum (Err NotYet) one other h k = h ∙ sym k
-one_of_report sum (Err (TwoFacts id)) one other h k = h ∙ sym k
-one_of_report sum (Err Memory) one other h k = absurd h
+some_none : (a : Answer) (o : Option Answer) → o ≡ Some a → o ≡ None → ⊥
+some_none a o e n = let wrong : Some a ≡ None = sym e ∙ n in cc
 
--- two answers that are one in each case of a test
-one_by_test : (b : Bool) (P Q P' Q' : Type 0) (one other : Answer) → (P → P' → one ≡ other) → (Q → Q' → one ≡ other) → MatchBool b P Q → MatchBool b P' Q' → one ≡ other
-one_by_test true P Q P' Q' one other left right h k = left h k
-one_by_test false P Q P' Q' one other left right h k = right h k
+same_some : (a b : Answer) (o : Option Answer) → o ≡ Some a → o ≡ Some b → a ≡ b
+same_some a b o e f = let same : Some a ≡ Some b = sym e ∙ f in cc
 
-one_of_file : (sum : SumWords) (held : Option (List ℕ)) (one other : Answer) → IsFileAnswer sum held one → IsFileAnswer sum held other → one ≡ other
-one_of_file sum None one other h k = h ∙ sym k
-one_of_file sum (Some bytes) one other h k = one_by_test (nat_lt limit (length bytes)) _ _ _ _ one other (λ p q. p ∙ sym q) (λ p q. one_of_report sum (plain_answer bytes (nodes_of sum)) one other p q) h k
+-- where a document is of neither kind, its refusal is the answer
+unread_is : (check : CheckWords) (bytes : List ℕ) (documents : List Document) (answer : Answer) → first_unread documents ≢ None → IsDocumentsAnswer check bytes documents answer → first_unread documents ≡ Some answer
+unread_is check bytes documents answer unread (inl (inl e)) = e
+unread_is check bytes documents answer unread (inl (inr (inl s))) = absurd (unread s.read)
+unread_is check bytes documents answer unread (inl (inr (inr l))) = absurd (unread l.read)
+unread_is check bytes documents answer unread (inr t) = absurd (unread t.taxonomy.read)
 
-pub one_answer : (words : Option SumWords) (files : Files) (one other : Answer) → IsAnswer words files one → IsAnswer words files other → one ≡ other
-one_answer None files one other h k = h ∙ sym k
-one_answer (Some sum) files one other h k = one_of_file sum (files sum.report) one other h k
+module _ (documents : DocumentsAreOne) where
+  one_check : (check : CheckWords) (files : Files) (one other : Answer) → HasUnread files check.documents → IsCheckAnswer check files one → IsCheckAnswer check files other → one ≡ other
+  one_check check files one other unread h k =
+      let first : h.documents ≡ unread.documents = documents files check.documents h.documents unread.documents h.read unread.read in
+      let second : k.documents ≡ unread.documents = documents files check.documents k.documents unread.documents k.read unread.read in
+      let left : first_unread unread.documents ≡ Some one = unread_is check h.bytes unread.documents one unread.unread (subst (λ ds. IsDocumentsAnswer check h.bytes ds one) first h.answered) in
+      let right : first_unread unread.documents ≡ Some other = unread_is check k.bytes unread.documents other unread.unread (subst (λ ds. IsDocumentsAnswer check k.bytes ds other) second k.answered) in
+      same_some one other (first_unread unread.documents) left right
+
+  one_command : (command : CommandWords) (files : Files) (one other : Answer) → (first_unfetched files (file_words command) ≢ None) ⊎ IsUnread command files → IsCommandAnswer command files one → IsCommandAnswer command files other → one ≡ other
+  one_command command files one other early (inl h) (inl k) = same_some one other (first_unfetched files (file_words command)) h k
+  one_command command files one other early (inl h) (inr k) = absurd (some_none one (first_unfetched files (file_words command)) h k.fetched)
+  one_command command files one other early (inr h) (inl k) = absurd (some_none other (first_unfetched files (file_words command)) k h.fetched)
+  one_command command files one other (inl unfetched) (inr h) (inr k) = absurd (unfetched h.fetched)
+  one_command (SumOf sum) files one other (inr unread) (inr h) (inr k) = absurd unread
+  one_command (CheckOf check) files one other (inr unread) (inr h) (inr k) = one_check check files one other unread h.answered k.answered
+
+  pub one_answer : (words : Option CommandWords) (files : Files) (one other : Answer) → HasEarlyFault words files → IsAnswer words files one → IsAnswer words files other → one ≡ other
+  one_answer None files one other early h k = h ∙ sym k
+  one_answer (Some command) files one other early h k = one_command command files one other early h k

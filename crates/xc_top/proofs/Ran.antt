@@ -1,65 +1,76 @@
 -- How a run ended: steps from what its parts say.
-use Rattle.std.proofs.Common.{◌≡◌, ◌⊎◌, ℕ, ◌≤◌, List, length, true, false, Option, Some, None, Result, Ok, IfSome, refl, sym, subst, inl, inr, nat_lt, cond, arith}
-use Rattle.std.specs.Prelude.{MatchBool, codes, IsSomeAnd}
-use Rattle.std.specs.List.{list_any}
+use Rattle.std.proofs.Common.{◌≡◌, ◌⊎◌, ◌<◌, ℕ, List, [], ◌∷◌, length, Bool, true, false, Option, Some, None, nat_lt, IfSome, refl, sym, ap, subst, ◌∙◌, inl, inr, cond, arith}
+use Rattle.std.specs.Prelude.{IsSomeAnd, codes}
 use Rattle.std.proofs.lemmas.Bool.Decides.{nat_tests}
+use Rattle.std.specs.Option.{option_or}
 use Rattle.xc_io.specs.Shelf.{Files}
-use Rattle.xc_report.specs.Plain.{plain_answer}
-use Rattle.xc_report.specs.declared.plain.Plain.{Plain}
-use Rattle.xc_report.specs.declared.plain.PlainFault.{PlainFault}
-use Rattle.xc_top.specs.Words.{SumWords}
-use Rattle.xc_top.specs.Answer.{IsAnswer, IsFileAnswer, IsReportAnswer, IsFindings, limit, nodes_of, make_answer, usage_line}
-use Rattle.xc_top.specs.Findings.{status_of, is_inconsistent}
-use Rattle.xc_top.specs.Lines.{read_fault_line, refusal_line}
-use Rattle.xc_top.specs.Run.{IsAnswered, IsReadFaultLine, IsPlainReport, IsPlainRun, IsSettled}
+use Rattle.xc_lines.specs.Lines.{read_fault_line, usage_line}
+use Rattle.xc_top.specs.Answer.{IsAnswer, IsAnswerOf, IsCommandAnswer}
+use Rattle.xc_top.specs.Answers.{make_answer, unread, refused}
+use Rattle.xc_top.specs.Documents.{limit, unfetched, unfetched_of, first_unfetched}
+use Rattle.xc_top.specs.Run.{IsAnswered, IsEnding, IsReadFaultOf, IsReadFaultLine, IsTooLong, AreHeldUpTo, HasFiles, IsUnrefused, IsJudged}
+use Rattle.xc_top.specs.Words.{CommandWords, file_words, words_of}
 use Rattle.xc_top.specs.declared.status.Answer.{Answer}
 use Rattle.xc_top.specs.declared.status.Status.{Status}
 use Rattle.xc_top.specs.declared.status.Status.TheVariants.{Sound, Findings, Usage, Refused, TooWide, ReadFault, WriteFault, Memory}
-use Rattle.xc_top.specs.declared.verdict.Verdict.{Verdict}
 
-pub if_any : {A : Type 0} {P : A → Type 0} (o : Option A) → ((a : A) → P a) → IfSome o P
-if_any None f = tt
-if_any (Some a) f = f a
-
-pub if_then : {A : Type 0} {P Q : A → Type 0} (o : Option A) → ((a : A) → P a → Q a) → IfSome o P → IfSome o Q
-if_then None f h = tt
-if_then (Some a) f h = f a h
-
-pub usage_answer : (words : Option SumWords) (files : Files) → None ≡ words → IsAnswer words files (make_answer Usage usage_line)
+pub usage_answer : (words : Option CommandWords) (files : Files) → None ≡ words → IsAnswer words files (make_answer Usage usage_line)
 usage_answer words files e = subst (λ w. IsAnswer w files (make_answer Usage usage_line)) e refl
 
-pub sum_answer : (words : Option SumWords) (sum : SumWords) (files : Files) (answer : Answer) → Some sum ≡ words → IsFileAnswer sum (files sum.report) answer → IsAnswer words files answer
-sum_answer words sum files answer e h = subst (λ w. IsAnswer w files answer) e h
+pub command_answer : (words : Option CommandWords) (command : CommandWords) (files : Files) (answer : Answer) → Some command ≡ words → IsCommandAnswer command files answer → IsAnswer words files answer
+command_answer words command files answer e h = subst (λ w. IsAnswer w files answer) e h
 
-pub fault_line : (words : Option SumWords) (sum : SumWords) (text : List ℕ) → Some sum ≡ words → text ≡ read_fault_line sum.report → IsReadFaultLine words text
-fault_line words sum text e h = subst (λ w. IsReadFaultLine w text) e h
+pub fault_line : (words : Option CommandWords) (command : CommandWords) (text : List ℕ) → Some command ≡ words → IsReadFaultOf (file_words command) text → IsReadFaultLine words text
+fault_line words command text e h = subst (λ w. IsReadFaultLine w text) e h
 
--- words that are not accepted ask for no report
-pub usage_unsettled : {A : Type 0} (words : Option SumWords) (files : Files) → None ≡ words → IsPlainRun words files → A
-usage_unsettled words files e plain = absurd (subst (λ w. IsPlainRun w files) (sym e) plain)
+-- words that are not accepted name no files
+pub usage_files : (words : Option CommandWords) (files : Files) → None ≡ words → HasFiles words files
+usage_files words files e = subst (λ w. HasFiles w files) e tt
 
-settled_status : (verdicts : List Verdict) → IsSettled (status_of verdicts)
-settled_status verdicts = elim (list_any is_inconsistent verdicts) as (λ b. IsSettled (cond b Findings Sound)) [ true ↦ inr refl | false ↦ inl refl ]
+more : (n : ℕ) → nat_lt limit n ≡ true → limit < n
+more n h = grind (arith, nat_tests)
 
-settled_report : (sum : SumWords) (read : Result Plain PlainFault) (plain : Plain) (answer : Answer) → read ≡ Ok plain → IsReportAnswer sum read answer → IsSettled answer.status
-settled_report sum read plain answer e is =
-    let findings : IsFindings sum plain answer = subst (λ r. IsReportAnswer sum r answer) e is in
-    subst (λ a. IsSettled a.status) (sym findings.is) (settled_status findings.verdicts)
+-- a word that is fetched or too long is held
+held_one : (word : List ℕ) (held : Option (List ℕ)) (rest : Option Answer) (answer : Answer) (Left : Type 0)
+    → (option_or (unfetched_of word held) rest ≡ Some answer) ⊎ (option_or (unfetched_of word held) rest ≡ None)
+    → ¬ (answer.status ≡ ReadFault) → ((rest ≡ Some answer) ⊎ (rest ≡ None) → Left)
+    → IsSomeAnd held (λ bytes. IsTooLong bytes ⊎ Left)
+held_one word None rest answer Left (inl e) read further = absurd (read (status_of e))
+  where
+    status_of : Some (unread word) ≡ Some answer → answer.status ≡ ReadFault
+    status_of e = let same : unread word ≡ answer = cc in sym (ap (λ a. a.status) same)
+held_one word None rest answer Left (inr e) read further = absurd (cc)
+held_one word (Some bytes) rest answer Left is read further = by (nat_lt limit (length bytes)) refl is
+  where
+    by : (b : Bool) → nat_lt limit (length bytes) ≡ b
+        → (option_or (cond b (Some (refused word (codes "xc:tooLong"))) None) rest ≡ Some answer) ⊎ (option_or (cond b (Some (refused word (codes "xc:tooLong"))) None) rest ≡ None)
+        → IsTooLong bytes ⊎ Left
+    by true long is = inl (more (length bytes) long)
+    by false short is = inr (further is)
 
-within : (n : ℕ) → n ≤ limit → nat_lt limit n ≡ false
-within n h = grind (arith, nat_tests)
+pub held_all : (files : Files) (words : List (List ℕ)) (answer : Answer) → (first_unfetched files words ≡ Some answer) ⊎ (first_unfetched files words ≡ None) → ¬ (answer.status ≡ ReadFault) → AreHeldUpTo files words
+held_all files [] answer is read = tt
+held_all files (word ∷ words) answer is read = held_one word (files word) (first_unfetched files words) answer (AreHeldUpTo files words) is read (λ rest. held_all files words answer rest read)
 
-settled_file : (sum : SumWords) (held : Option (List ℕ)) (answer : Answer) → IsSomeAnd held (IsPlainReport sum) → IsFileAnswer sum held answer → IsSettled answer.status
-settled_file sum None answer plain is = absurd plain
-settled_file sum (Some bytes) answer report is =
-    let TooLong : Type 0 = answer ≡ make_answer Refused (refusal_line sum.report (codes "xc:tooLong")) in
-    let Read : Type 0 = IsReportAnswer sum (plain_answer bytes (nodes_of sum)) answer in
-    let read : Read = subst (λ b. MatchBool b TooLong Read) (within (length bytes) report.short) is in
-    settled_report sum (plain_answer bytes (nodes_of sum)) report.plain answer report.reads read
+-- where a command is answered, its files are held up to one that is too long
+pub command_held : (words : Option CommandWords) (command : CommandWords) (files : Files) (answer : Answer) → Some command ≡ words → IsCommandAnswer command files answer → ¬ (answer.status ≡ ReadFault) → HasFiles words files
+command_held words command files answer e (inl first) read = subst (λ w. HasFiles w files) e (held_all files (file_words command) answer (inl first) read)
+command_held words command files answer e (inr answered) read = subst (λ w. HasFiles w files) e (held_all files (file_words command) answer (inr answered.fetched) read)
 
--- a plain report is judged
-pub sum_settled : (words : Option SumWords) (sum : SumWords) (files : Files) (answer : Answer) → Some sum ≡ words → IsFileAnswer sum (files sum.report) answer → IsPlainRun words files → IsSettled answer.status
-sum_settled words sum files answer e is plain = settled_file sum (files sum.report) answer (subst (λ w. IsPlainRun w files) (sym e) plain) is
+-- words that are not accepted are not answered by verdicts
+pub usage_unjudged : {A : Type 0} (words : List (List ℕ)) (files : Files) → None ≡ words_of words → IsUnrefused words files → A
+usage_unjudged words files e sound = absurd (sound.accepted (sym e))
+
+-- an ending that is neither a refusal nor a fault is a judgement
+pub judged : (s : Status) → IsEnding s → ¬ (s ≡ ReadFault) → ¬ (s ≡ Refused) → IsJudged s
+judged Sound ends read refused = inl refl
+judged Findings ends read refused = inr (inl refl)
+judged Usage ends read refused = absurd ends
+judged Refused ends read refused = absurd (refused refl)
+judged TooWide ends read refused = inr (inr refl)
+judged ReadFault ends read refused = absurd (read refl)
+judged WriteFault ends read refused = absurd ends
+judged Memory ends read refused = absurd ends
 
 -- a status is a read fault or none
 pub read_fault_or_none : (s : Status) → (s ≡ ReadFault) ⊎ (¬ (s ≡ ReadFault))
@@ -79,7 +90,7 @@ pub no_write_fault : (s : Status) → IsAnswered s → ¬ (s ≡ WriteFault)
 no_write_fault s answered e = subst (λ t. IsAnswered t) e answered
 
 -- the answer with its status under another name
-pub same_answer : (words : Option SumWords) (files : Files) (s : Status) (answer : Answer) → s ≡ answer.status → IsAnswer words files answer → IsAnswer words files (make_answer s answer.text)
+pub same_answer : (words : Option CommandWords) (files : Files) (s : Status) (answer : Answer) → s ≡ answer.status → IsAnswer words files answer → IsAnswer words files (make_answer s answer.text)
 same_answer words files s answer e is = subst (λ t. IsAnswer words files (make_answer t answer.text)) (sym e) is
 
 -- the two faults are two

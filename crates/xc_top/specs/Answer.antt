@@ -1,62 +1,33 @@
 -- What a run writes and how it ends, of its words and of what is held.
-use Rattle.std.specs.Prelude.{◌≡◌, ℕ, List, ◌∷◌, drop, length, map, Option, Some, None, Result, Ok, Err, MatchBool, codes, nat_lt}
+use Rattle.std.specs.Prelude.{◌≡◌, ◌⊎◌, ℕ, List, Option, Some, None}
 use Rattle.xc_io.specs.Shelf.{Files}
-use Rattle.xc_report.specs.Plain.{plain_answer}
-use Rattle.xc_report.specs.declared.plain.Plain.{Plain}
-use Rattle.xc_report.specs.declared.plain.PlainFault.{PlainFault}
-use Rattle.xc_report.specs.declared.plain.PlainFault.TheVariants.{Memory, NotJson, NotYet, TwoFacts}
-use Rattle.xc_top.specs.Bindings.{SumBinding, arcs_of, bindings_of}
-use Rattle.xc_top.specs.Findings.{findings_of, status_of}
-use Rattle.xc_top.specs.Lines.{read_fault_line, refusal_line, placed_refusal_line}
-use Rattle.xc_top.specs.Verdicts.{AreVerdicts}
-use Rattle.xc_top.specs.Words.{SumWords, name_of, words_of}
+use Rattle.xc_lines.specs.Lines.{usage_line}
+use Rattle.xc_top.specs.Answers.{make_answer}
+use Rattle.xc_top.specs.Checks.{IsCheckAnswer}
+use Rattle.xc_top.specs.Documents.{first_unfetched}
+use Rattle.xc_top.specs.Sums.{IsSumAnswer}
+use Rattle.xc_top.specs.Words.{CommandWords, SumOf, CheckOf, file_words, words_of}
 use Rattle.xc_top.specs.declared.status.Answer.{Answer}
-use Rattle.xc_top.specs.declared.status.Status.{Status}
-use Rattle.xc_top.specs.declared.status.Status.TheVariants as status
-use Rattle.xc_top.specs.declared.verdict.Verdict.{Verdict}
+use Rattle.xc_top.specs.declared.status.Status.TheVariants.{Usage}
 
--- the greatest size of a file, in bytes
-abbrev pub limit : ℕ
-limit = 67108864
+-- what is answered of a command whose files are all held
+abbrev pub IsHeldAnswer : CommandWords → Files → Answer → Type 0
+IsHeldAnswer (SumOf sum) files answer = IsSumAnswer sum files answer
+IsHeldAnswer (CheckOf check) files answer = IsCheckAnswer check files answer
 
-abbrev pub make_answer : Status → List ℕ → Answer
-make_answer s text = record { status = s; text = text }
+-- all files are held and none is too long, and this is answered of them
+pub record IsFetchedAnswer (command : CommandWords) (files : Files) (answer : Answer) : Type 0 where
+  pub fetched : first_unfetched files (file_words command) ≡ None
+  pub answered : IsHeldAnswer command files answer
 
--- words that are not accepted
-abbrev pub usage_line : List ℕ
-usage_line = codes "usage: xcalc sum MODE REPORT TOTAL TERM... | check [--old-arcs] MODE REPORT DOC... | verify [--old-arcs] MODE CERTIFICATE REPORT DOC... | sample N\n"
-
--- the names whose facts are read: the total's, and the contributors'
-abbrev pub nodes_of : SumWords → List (List ℕ)
-nodes_of sum = sum.total ∷ map name_of sum.terms
-
--- the bindings in the facts of a plain report
-abbrev pub bindings_in : SumWords → Plain → List SumBinding
-bindings_in sum plain = bindings_of plain.facts (arcs_of (drop 1 plain.nodes) sum.terms)
-
--- the findings of a plain report, with a verdict for each binding
-pub record IsFindings (sum : SumWords) (plain : Plain) (answer : Answer) : Type 0 where
-  pub verdicts : List Verdict
-  pub are : AreVerdicts sum.mode (bindings_in sum plain) verdicts
-  pub is : answer ≡ make_answer (status_of verdicts) (findings_of sum.mode (length plain.facts) (bindings_in sum plain) verdicts)
-
--- what is answered of a report, by what was read of it
-abbrev pub IsReportAnswer : SumWords → Result Plain PlainFault → Answer → Type 0
-IsReportAnswer sum (Ok plain) answer = IsFindings sum plain answer
-IsReportAnswer sum (Err NotJson) answer = answer ≡ make_answer status.Refused (refusal_line sum.report (codes "xc:notJson"))
-IsReportAnswer sum (Err NotYet) answer = answer ≡ make_answer status.Refused (refusal_line sum.report (codes "xc:notYet"))
-IsReportAnswer sum (Err (TwoFacts id)) answer = answer ≡ make_answer status.Refused (placed_refusal_line sum.report (codes "xc:twoFacts") id)
-IsReportAnswer sum (Err Memory) answer = ⊥
-
--- what is answered of `sum`, by what is held under the report's name
-abbrev pub IsFileAnswer : SumWords → Option (List ℕ) → Answer → Type 0
-IsFileAnswer sum None answer = answer ≡ make_answer status.ReadFault (read_fault_line sum.report)
-IsFileAnswer sum (Some bytes) answer = MatchBool (nat_lt limit (length bytes)) (answer ≡ make_answer status.Refused (refusal_line sum.report (codes "xc:tooLong"))) (IsReportAnswer sum (plain_answer bytes (nodes_of sum)) answer)
+-- what is answered of a command: the first of its files that is not held or too long, or else what is answered of them
+abbrev pub IsCommandAnswer : CommandWords → Files → Answer → Type 0
+IsCommandAnswer command files answer = (first_unfetched files (file_words command) ≡ Some answer) ⊎ IsFetchedAnswer command files answer
 
 -- what is answered of words that were read, where these files are held
-abbrev pub IsAnswer : Option SumWords → Files → Answer → Type 0
-IsAnswer None files answer = answer ≡ make_answer status.Usage usage_line
-IsAnswer (Some sum) files answer = IsFileAnswer sum (files sum.report) answer
+abbrev pub IsAnswer : Option CommandWords → Files → Answer → Type 0
+IsAnswer None files answer = answer ≡ make_answer Usage usage_line
+IsAnswer (Some command) files answer = IsCommandAnswer command files answer
 
 -- what is answered of words, where these files are held
 abbrev pub IsAnswerOf : List (List ℕ) → Files → Answer → Type 0

@@ -1,6 +1,16 @@
 -- What borrowed words name.
-use Rattle.xc_top.specs.Words.{SumWords, texts}
+use Rattle.xc_top.specs.Words.{SumWords, CheckWords, CommandWords, SumOf, CheckOf, texts}
+use Rattle.xc_top.specs.declared.words.Check.{Check}
+use Rattle.xc_top.specs.declared.words.Command as lent
+use Rattle.xc_top.specs.declared.words.Command.TheVariants as command
 use Rattle.xc_top.specs.declared.words.Sum.{Sum}
 
-abbrev pub named : Sum → SumWords
-named sum = record { mode = sum.mode; report = sum.report.now; total = sum.total.now; terms = texts sum.terms.now }
+abbrev pub named_sum : Sum → SumWords
+named_sum sum = record { mode = sum.mode; report = sum.report.now; total = sum.total.now; terms = texts sum.terms.now }
+
+abbrev pub named_check : Check → CheckWords
+named_check check = record { kind = check.kind; mode = check.mode; report = check.report.now; documents = texts check.documents.now }
+
+abbrev pub named : lent.Command → CommandWords
+named (command.Sum sum) = SumOf (named_sum sum)
+named (command.Check check) = CheckOf (named_check check)

@@ -1,13 +1,13 @@
 -- What a run leaves, by its status.
-use Rattle.std.specs.Prelude.{◌≡◌, ◌<◌, ◌≤◌, ◌⊎◌, ℕ, List, length, take, Option, Some, None, Ok, IsSome, IsSomeAnd}
+use Rattle.std.specs.Prelude.{◌≡◌, ◌≢◌, ◌<◌, ◌⊎◌, ℕ, List, [], ◌∷◌, length, take, Option, Some, None, IsSomeAnd}
 use Rattle.std.specs.Io.KnownBytes.{Appends}
 use Rattle.xc_io.specs.Shelf.{Files}
 use Rattle.xc_io.specs.Sink.{AppendsPrefix}
-use Rattle.xc_report.specs.Plain.{plain_answer}
-use Rattle.xc_report.specs.declared.plain.Plain.{Plain}
-use Rattle.xc_top.specs.Answer.{limit, nodes_of}
-use Rattle.xc_top.specs.Lines.{read_fault_line}
-use Rattle.xc_top.specs.Words.{SumWords}
+use Rattle.xc_lines.specs.Lines.{read_fault_line}
+use Rattle.xc_top.specs.Answer.{IsAnswerOf}
+use Rattle.xc_top.specs.Documents.{limit}
+use Rattle.xc_top.specs.Words.{CommandWords, file_words, words_of}
+use Rattle.xc_top.specs.declared.status.Answer.{Answer}
 use Rattle.xc_top.specs.declared.status.Status.{Status}
 use Rattle.xc_top.specs.declared.status.Status.TheVariants.{Sound, Findings, Usage, Refused, TooWide, ReadFault, WriteFault, Memory}
 
@@ -33,31 +33,50 @@ IsEnding Usage = ⊥
 IsEnding WriteFault = ⊥
 IsEnding Memory = ⊥
 
+-- an answer to accepted words
+abbrev pub IsSettled : Status → Type 0
+IsSettled Sound = Unit {0}
+IsSettled Findings = Unit {0}
+IsSettled Refused = Unit {0}
+IsSettled TooWide = Unit {0}
+IsSettled ReadFault = ⊥
+IsSettled Usage = ⊥
+IsSettled WriteFault = ⊥
+IsSettled Memory = ⊥
+
 -- a beginning of the text was written: where the sink has a known room, a proper one, as long as the room
 abbrev pub AppendsPart : Option ℕ → Option (List ℕ) → Option (List ℕ) → List ℕ → Type 0
 AppendsPart room old new text = AppendsPrefix old new text × ((n : ℕ) → room ≡ Some n → (n < length text) × Appends old new (take n text))
 
+-- the line of a failed fetch, of one of these words
+abbrev pub IsReadFaultOf : List (List ℕ) → List ℕ → Type 0
+IsReadFaultOf [] text = ⊥
+IsReadFaultOf (word ∷ words) text = (text ≡ read_fault_line word) ⊎ IsReadFaultOf words text
+
 -- the line of a failed fetch, of a file that the words name
-abbrev pub IsReadFaultLine : Option SumWords → List ℕ → Type 0
+abbrev pub IsReadFaultLine : Option CommandWords → List ℕ → Type 0
 IsReadFaultLine None text = ⊥
-IsReadFaultLine (Some sum) text = text ≡ read_fault_line sum.report
+IsReadFaultLine (Some command) text = IsReadFaultOf (file_words command) text
 
--- the files that the words name are held
-abbrev pub AreHeld : Option SumWords → Files → Type 0
-AreHeld None files = Unit {0}
-AreHeld (Some sum) files = IsSome (files sum.report)
+-- more is held than the limit
+abbrev pub IsTooLong : List ℕ → Type 0
+IsTooLong bytes = limit < length bytes
 
--- these bytes are a plain report for the words, of at most the limit
-pub record IsPlainReport (sum : SumWords) (bytes : List ℕ) : Type 0 where
-  pub short : length bytes ≤ limit
-  pub plain : Plain
-  pub reads : plain_answer bytes (nodes_of sum) ≡ Ok plain
+-- each of these files is held, up to the first that is too long
+abbrev pub AreHeldUpTo : Files → List (List ℕ) → Type 0
+AreHeldUpTo files [] = Unit {0}
+AreHeldUpTo files (word ∷ words) = IsSomeAnd (files word) (λ bytes. IsTooLong bytes ⊎ AreHeldUpTo files words)
 
--- the words ask for a plain report that is held
-abbrev pub IsPlainRun : Option SumWords → Files → Type 0
-IsPlainRun None files = ⊥
-IsPlainRun (Some sum) files = IsSomeAnd (files sum.report) (IsPlainReport sum)
+-- the files that the words name are held, up to the first that is too long
+abbrev pub HasFiles : Option CommandWords → Files → Type 0
+HasFiles None files = Unit {0}
+HasFiles (Some command) files = AreHeldUpTo files (file_words command)
+
+-- the words are accepted, and no answer of them over these files is a refusal
+pub record IsUnrefused (words : List (List ℕ)) (files : Files) : Type 0 where
+  pub accepted : words_of words ≢ None
+  pub sound : (answer : Answer) → IsAnswerOf words files answer → ¬ (answer.status ≡ Refused)
 
 -- the bindings are judged
-abbrev pub IsSettled : Status → Type 0
-IsSettled status = (status ≡ Sound) ⊎ (status ≡ Findings)
+abbrev pub IsJudged : Status → Type 0
+IsJudged status = (status ≡ Sound) ⊎ (status ≡ Findings) ⊎ (status ≡ TooWide)

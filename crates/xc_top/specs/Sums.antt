@@ -1,49 +1,94 @@
--- What the intervals hold from which a verdict is found: numbers of any denominator.
-use Rattle.std.specs.Prelude.{pos, List, [], ◌∷◌, Bool, ◌↔◌}
-use Rattle.xc_model.specs.Fraction.{Fraction, SameNumber, whole, sum_of}
-use Rattle.xc_model.specs.Ratio.{Ratio}
-use Rattle.xc_interval.specs.Intervals.{frac_parts, numbers_of, pairs_of, HasNumber, HasNoPair}
-use Rattle.xc_interval.specs.declared.interval.Interval.{Interval}
-use Rattle.xc_interval.specs.declared.mode.Mode.{Mode}
-use Rattle.xc_top.specs.Verdicts.{Admits, signed}
-use Rattle.xc_top.specs.declared.bindings.Amount.{Amount}
-use Rattle.xc_top.specs.declared.bindings.Term.{Term}
+-- What `sum` answers.
+use Rattle.std.specs.Prelude.{◌≡◌, ◌⊎◌, ◌==◌, ℕ, pos, negsuc, List, [], ◌∷◌, map, Bool, true, false, Option, Some, None, is_some, option_and_then, Result, Ok, Err, codes, refl, if◌then◌else◌}
+use Rattle.std.specs.FinMap.{get}
+use Rattle.std.specs.List.{zip, list_any}
+use Rattle.std.specs.List.Sorted.{IsStrictlySortedBy}
+use Rattle.std.specs.Option.{option_map_or}
+use Rattle.std.specs.Ordering.{nat_cmp}
+use Rattle.xc_calc.specs.declared.arc.Arc.{Arc}
+use Rattle.xc_calc.specs.declared.arc.Network.{Network}
+use Rattle.xc_concepts.specs.Held.{is_among}
+use Rattle.xc_concepts.specs.Places.{first_given}
+use Rattle.xc_decimal.specs.Numbers.{shortest_if}
+use Rattle.xc_decimal.specs.Shortest.{Shortest}
+use Rattle.xc_io.specs.Shelf.{Files}
+use Rattle.xc_names.specs.Names.{number_of}
+use Rattle.xc_names.specs.PlainNames.{split}
+use Rattle.xc_names.specs.Prefixes.{Bindings}
+use Rattle.xc_names.specs.declared.expanded.Expanded.{Expanded}
+use Rattle.xc_names.specs.declared.expanded.NameId.{NameId}
+use Rattle.xc_names.specs.declared.wanted.Wanted.{Wanted}
+use Rattle.xc_report.specs.Opened.{Opened, opened}
+use Rattle.xc_report.specs.declared.reports.ReportFault.{ReportFault}
+use Rattle.xc_top.specs.Answers.{refused_at, report_refusal}
+use Rattle.xc_top.specs.Judged.{Asked, IsFactsAnswer}
+use Rattle.xc_top.specs.Words.{SumWords, name_of, is_negative}
+use Rattle.xc_top.specs.declared.status.Answer.{Answer}
 
--- the interval holds exactly the numbers with this property
-abbrev pub Holds : Interval Ratio → (Fraction → Type 0) → Type 0
-Holds i P = (x : Fraction) → HasNumber (numbers_of i) x ↔ P x
+abbrev pub sum_asked : SumWords → Asked
+sum_asked sum = record { word = sum.report; mode = sum.mode; close = [] }
 
--- something lies in the interval
-abbrev pub IsSome : Interval Ratio → Type 0
-IsSome i = ¬ HasNoPair (pairs_of frac_parts i)
+-- the words of the total and of the contributors, each with the name in it
+abbrev pub named_words : SumWords → List (List ℕ × List ℕ)
+named_words sum = (sum.total, sum.total) ∷ map (λ term. (term, name_of term)) sum.terms
 
--- an amount may stand for x
-abbrev pub IsAmountOf : Mode → Amount → Fraction → Type 0
-IsAmountOf mode amount x = Admits mode amount x.num x.den
+-- the prefix of the name is declared
+abbrev pub is_bound : Bindings → List ℕ → Bool
+is_bound prefixes name = option_map_or (λ parts. is_some (get prefixes parts.0)) (split name) false
 
--- a number, or its negative
-abbrev pub signed_of : Bool → Fraction → Fraction
-signed_of negative x = record { num = signed negative x.num; den = x.den; positive = x.positive }
+-- what is answered of a word whose name has a prefix that the report does not declare
+abbrev pub unbound : Bindings → List ℕ → List ℕ × List ℕ → Option Answer
+unbound prefixes report word = if is_bound prefixes word.1 then None else Some (refused_at report (codes "xc:badSumName") word.0)
 
--- the weight of a term
-abbrev pub weight_of : Bool → Fraction
-weight_of negative = whole (signed negative (pos 1))
+-- the number among these names of a name with a declared prefix
+abbrev pub number_in : Bindings → List Expanded → List ℕ → Option ℕ
+number_in prefixes names name = option_and_then (λ parts. option_and_then (λ space. number_of space parts.1 names) (get prefixes parts.0)) (split name)
 
--- a term's amount may stand for a number that is x with the term's sign
-pub record IsTermOf (mode : Mode) (term : Term) (x : Fraction) : Type 0 where
-  pub number : Fraction
-  pub admits : IsAmountOf mode term.amount number
-  pub is : SameNumber x (signed_of term.negative number)
+-- the weight of a contributor: 1, or -1 where it is taken away
+abbrev pub weight_of : Bool → Shortest
+weight_of false = record { digits = pos 1; places = 0; shortest = shortest_if (pos 1, 0) refl }
+weight_of true = record { digits = negsuc 0; places = 0; shortest = shortest_if (negsuc 0, 0) refl }
 
--- x is the sum of a number with the one property and a number with the other
-pub record IsSumWith (P Q : Fraction → Type 0) (x : Fraction) : Type 0 where
-  pub one : Fraction
-  pub other : Fraction
-  pub has_one : P one
-  pub has_other : Q other
-  pub adds : SameNumber (sum_of one other) x
+abbrev pub arc_to : NameId → List ℕ × NameId → Arc
+arc_to total term = record { from = total; to = term.1; weight = weight_of (is_negative term.0) }
 
--- x is a sum of one number of each term
-abbrev pub IsSumOf : Mode → List Term → Fraction → Type 0
-IsSumOf mode [] x = SameNumber x (whole (pos 0))
-IsSumOf mode (term ∷ terms) x = IsSumWith (IsTermOf mode term) (IsSumOf mode terms) x
+-- the one network of `sum`: an arc from the total to each contributor, in the order of the words
+abbrev pub sum_network : NameId → List (List ℕ × NameId) → Network
+sum_network total terms = record { role = codes "sum"; arcs = map (arc_to total) terms }
+
+-- the number is that of one of these names
+abbrev pub is_number_of : List NameId → ℕ → Bool
+is_number_of ids number = list_any (λ id. id.0 == number) ids
+
+-- the numbers of these names, each once and ascending
+pub record AreNodesOf (ids : List NameId) (numbers : List ℕ) : Type 0 where
+  pub ascending : IsStrictlySortedBy nat_cmp numbers
+  pub nodes : (number : ℕ) → is_among numbers number ≡ is_number_of ids number
+
+-- the names of the words have these numbers, and all of them are nodes; no dimension is typed
+pub record AreSumNumbers (prefixes : Bindings) (names : List Expanded) (sum : SumWords) (total : NameId) (terms : List NameId) (wanted : Wanted) : Type 0 where
+  pub total_is : number_in prefixes names sum.total ≡ Some total.0
+  pub terms_are : map (λ term. number_in prefixes names (name_of term)) sum.terms ≡ map (λ id. Some id.0) terms
+  pub nodes : AreNodesOf (total ∷ terms) (map (λ id. id.0) wanted.nodes)
+  pub typed : wanted.typed ≡ []
+
+-- what is answered of an opened report that declares the prefixes of all names, whatever the numbers of these
+pub record IsNumberedAnswer (sum : SumWords) (opened : Opened) (answer : Answer) : Type 0 where
+  pub bound : first_given (unbound opened.prefixes sum.report) (named_words sum) ≡ None
+  pub names : List Expanded
+  pub total : NameId
+  pub terms : List NameId
+  pub wanted : Wanted
+  pub numbers : AreSumNumbers opened.prefixes names sum total terms wanted
+  pub answered : IsFactsAnswer (sum_asked sum) names (sum_network total (zip sum.terms terms) ∷ []) wanted opened answer
+
+-- what is answered of what was read of the report: the first name whose prefix is not declared, or else what is answered of its facts
+abbrev pub IsReportAnswer : SumWords → Result Opened ReportFault → Answer → Type 0
+IsReportAnswer sum (Ok opened) answer = (first_given (unbound opened.prefixes sum.report) (named_words sum) ≡ Some answer) ⊎ IsNumberedAnswer sum opened answer
+IsReportAnswer sum (Err fault) answer = report_refusal sum.report fault ≡ Some answer
+
+-- what is answered of the file that is held
+pub record IsSumAnswer (sum : SumWords) (files : Files) (answer : Answer) : Type 0 where
+  pub bytes : List ℕ
+  pub held : files sum.report ≡ Some bytes
+  pub answered : IsReportAnswer sum (opened bytes) answer

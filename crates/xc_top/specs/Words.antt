@@ -3,6 +3,8 @@ use Rattle.std.specs.Prelude.{ℕ, List, [], ◌∷◌, Bool, false, ◌&&◌, �
 use Rattle.std.specs.List.{list_all}
 use Rattle.std.specs.Str.{bytes_eq}
 use Rattle.std.specs.declared.alloc.Global.{Global}
+use Rattle.xc_calc.specs.declared.arc.ArcKind.{ArcKind}
+use Rattle.xc_calc.specs.declared.arc.ArcKind.TheVariants.{New, Old}
 use Rattle.xc_interval.specs.declared.mode.Mode.{Mode}
 use Rattle.xc_interval.specs.declared.mode.Mode.TheVariants.{Rounding, Truncation}
 use Rattle.xc_names.specs.PlainNames.{split}
@@ -14,10 +16,26 @@ pub record SumWords : Type 0 where
   pub total : List ℕ
   pub terms : List (List ℕ)
 
+-- what the words of `check` name
+pub record CheckWords : Type 0 where
+  pub kind : ArcKind
+  pub mode : Mode
+  pub report : List ℕ
+  pub documents : List (List ℕ)
+
+-- what accepted words ask for
+pub data CommandWords : Type 0 where
+  SumOf : SumWords → CommandWords
+  CheckOf : CheckWords → CommandWords
+
 -- a word that names a file: not empty, and no `-` at its head
 abbrev pub is_file_word : List ℕ → Bool
 is_file_word [] = false
 is_file_word (first ∷ rest) = not (first == 45)
+
+-- one file or more
+abbrev pub are_file_words : List (List ℕ) → Bool
+are_file_words words = nat_lt 0 (length words) && list_all is_file_word words
 
 -- a word that names a concept
 abbrev pub is_name_word : List ℕ → Bool
@@ -40,28 +58,53 @@ is_term_word term = is_signed term && is_name_word (name_of term)
 abbrev pub are_terms : List (List ℕ) → Bool
 are_terms terms = nat_lt 0 (length terms) && list_all is_term_word terms
 
--- the mode that a word names
-abbrev pub mode_of : List ℕ → Option Mode
-mode_of word = if bytes_eq word (codes "rounding") then Some Rounding else if bytes_eq word (codes "truncation") then Some Truncation else None
-
--- the words of `sum`, beside that of the mode
-abbrev pub is_sum : List ℕ → List ℕ → List ℕ → List (List ℕ) → Bool
-is_sum command report total terms = bytes_eq command (codes "sum") && is_file_word report && is_name_word total && are_terms terms
-
--- what words name whose parts are accepted
-abbrev pub make_words : List ℕ → List ℕ → List (List ℕ) → Mode → SumWords
-make_words report total terms mode = record { mode = mode; report = report; total = total; terms = terms }
-
--- what these words name, where they are accepted
-abbrev pub words_of : List (List ℕ) → Option SumWords
-words_of (command ∷ mode ∷ report ∷ total ∷ terms) = if is_sum command report total terms then option_map (make_words report total terms) (mode_of mode) else None
-words_of _ = None
-
--- the bytes of each word
-abbrev pub texts : List (String Global) → List (List ℕ)
-texts words = map (λ word. string_bytes word) words
-
 -- a contributor that is taken away
 abbrev pub is_negative : List ℕ → Bool
 is_negative [] = false
 is_negative (sign ∷ name) = sign == 45
+
+-- the mode that a word names
+abbrev pub mode_of : List ℕ → Option Mode
+mode_of word = if bytes_eq word (codes "rounding") then Some Rounding else if bytes_eq word (codes "truncation") then Some Truncation else None
+
+-- the words of `sum` behind that of the mode
+abbrev pub is_sum : List ℕ → List ℕ → List (List ℕ) → Bool
+is_sum report total terms = is_file_word report && is_name_word total && are_terms terms
+
+abbrev pub make_sum : List ℕ → List ℕ → List (List ℕ) → Mode → SumWords
+make_sum report total terms mode = record { mode = mode; report = report; total = total; terms = terms }
+
+-- what the words behind `sum` name
+abbrev pub sum_of : List (List ℕ) → Option SumWords
+sum_of (mode ∷ report ∷ total ∷ terms) = if is_sum report total terms then option_map (make_sum report total terms) (mode_of mode) else None
+sum_of _ = None
+
+abbrev pub make_check : ArcKind → List ℕ → List (List ℕ) → Mode → CheckWords
+make_check kind report documents mode = record { kind = kind; mode = mode; report = report; documents = documents }
+
+-- what the words behind `check` name, without the one that chooses the arcs
+abbrev pub check_of_kind : ArcKind → List (List ℕ) → Option CheckWords
+check_of_kind kind (mode ∷ report ∷ documents) = if is_file_word report && are_file_words documents then option_map (make_check kind report documents) (mode_of mode) else None
+check_of_kind kind _ = None
+
+-- what the words behind `check` name: `--old-arcs` stands only first
+abbrev pub check_of : List (List ℕ) → Option CheckWords
+check_of [] = None
+check_of (word ∷ words) = if bytes_eq word (codes "--old-arcs") then check_of_kind Old words else check_of_kind New (word ∷ words)
+
+-- what these words ask for, where they are accepted
+abbrev pub words_of : List (List ℕ) → Option CommandWords
+words_of [] = None
+words_of (command ∷ words) =
+    if bytes_eq command (codes "sum") then option_map SumOf (sum_of words)
+    else if bytes_eq command (codes "check") then option_map CheckOf (check_of words)
+    else None
+
+-- the files that are read, in the order in which they are fetched: the report, and then the documents
+abbrev pub file_words : CommandWords → List (List ℕ)
+file_words (SumOf sum) = sum.report ∷ []
+file_words (CheckOf check) = check.report ∷ check.documents
+
+-- the bytes of each word
+abbrev pub texts : List (String Global) → List (List ℕ)
+texts words = map (λ word. string_bytes word) words

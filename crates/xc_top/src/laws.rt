@@ -1,9 +1,23 @@
 //! What the definitions of this crate say.
 //!
-//! Each function has an empty body: its contract is the law.
-ghost use Rattle.xc_top.specs.Laws.{AnswersAreOne};
+//! The contract of each function is the law; its body cites the laws of documents.
+ghost use Rattle.xc_top.specs.Laws.{DocumentsAreOne, FirstFaultsAreOne};
 
-/// Words and files have one answer: what is written and how the run ends is a function of them.
-pub fn answers_are_one()
-    ensures { AnswersAreOne }
-{}
+use xc_elements::laws::{one_first_fault, one_tree, tree_or_fault};
+
+/// The files of a taxonomy hold one list of documents, with their trees or first faults.
+pub fn documents_are_one()
+    ensures { DocumentsAreOne }
+{
+    one_tree();
+    one_first_fault();
+    tree_or_fault();
+}
+
+/// Words and files have one answer where the words are not accepted, a file is not held or too long, or a document is
+/// neither a schema nor a linkbase.
+pub fn first_faults_are_one()
+    ensures { FirstFaultsAreOne }
+{
+    documents_are_one();
+}

@@ -2,13 +2,16 @@
 #![tactic(auto)]
 
 mod answer;
-mod bindings;
-mod findings;
+mod check;
+mod documents;
+mod judged;
 pub mod laws;
-mod lines;
+mod refusals;
 mod status;
+mod sum;
+mod taxonomy;
 mod top;
-mod verdict;
+mod verdicts;
 mod words;
 
 pub use status::{Answer, Status};

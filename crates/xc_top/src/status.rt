@@ -1,8 +1,10 @@
 // How a run ends.
 ghost use Rattle.std.specs.Prelude.{◌≡◌};
 ghost use Rattle.xc_top.specs.Status.{number};
+ghost use Rattle.xc_top.specs.declared.status.Stop.TheVariants as stop;
 
-use xc_frac::Text;
+use std::alloc::{AllocError, AllocFailed};
+use xc_frac::{Items, Memory};
 
 /// How a run ends. `number` gives what the program ends with.
 #[derive(Clone, Copy, Debug, PartialEq, Eq)]
@@ -29,7 +31,8 @@ pub enum Status {
 #[derive(Debug, Drop)]
 pub struct Answer {
     pub status: Status,
-    pub text: Text,
+    /// The bytes of its lines.
+    pub text: Items<u8>,
 }
 
 impl Status {
@@ -47,5 +50,38 @@ impl Status {
             Status::WriteFault => 6,
             Status::Memory => 7,
         }
+    }
+}
+
+/// Why a run ends before its findings.
+#[derive(Debug, Drop)]
+pub enum Stop {
+    /// Want of memory.
+    Memory,
+    /// A document that is refused, or a file that could not be read.
+    Named(Answer),
+}
+
+impl From<Memory> for Stop {
+    ghost from_gives = { λ _ e. e ≡ stop.Memory };
+
+    fn from(_memory: Memory) -> Stop {
+        Stop::Memory
+    }
+}
+
+impl From<AllocError> for Stop {
+    ghost from_gives = { λ _ e. e ≡ stop.Memory };
+
+    fn from(_error: AllocError) -> Stop {
+        Stop::Memory
+    }
+}
+
+impl<T: Drop> From<AllocFailed<T>> for Stop {
+    ghost from_gives = { λ _ e. e ≡ stop.Memory };
+
+    fn from(_error: AllocFailed<T>) -> Stop {
+        Stop::Memory
     }
 }

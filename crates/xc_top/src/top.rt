@@ -1,35 +1,40 @@
 // The top call.
-ghost use Rattle.std.specs.Prelude.{◌≡◌, ◌≢◌, ◌⊎◌, ◌≤◌, ◌<◌, ℕ, List, length, take, Some, None, true, IfSome, string_bytes};
+ghost use Rattle.std.specs.Prelude.{◌≡◌, ◌≢◌, ◌⊎◌, ℕ, List, None, true, IfSome};
 ghost use Rattle.std.specs.Io.KnownBytes.{Appends, Keeps};
 ghost use Rattle.xc_io.specs.Faults.{Rose};
+ghost use Rattle.xc_lines.specs.Lines.{usage_line};
+ghost use Rattle.xc_top.specs.Answer.{IsAnswerOf};
+ghost use Rattle.xc_top.specs.Answers.{make_answer};
+ghost use Rattle.xc_top.specs.Run.{IsAnswered, AppendsPart, IsReadFaultLine, HasFiles, IsUnrefused, IsJudged};
 ghost use Rattle.xc_top.specs.Words.{words_of, texts};
-ghost use Rattle.xc_top.specs.Answer.{IsAnswerOf, make_answer, usage_line};
 ghost use Rattle.xc_top.specs.declared.status.Answer.{Answer};
-ghost use Rattle.xc_top.specs.Run.{IsAnswered, AppendsPart, IsReadFaultLine, AreHeld, IsPlainRun, IsSettled};
 
 use crate::Status;
-use crate::answer::answer_sum;
+use crate::answer::answer_command;
 use crate::words::read_words;
 use std::alloc::Global;
 use xc_io::{Shelf, Sink, SinkFault};
-
-const USAGE: &str =
-    "usage: xcalc sum MODE REPORT TOTAL TERM... | check [--old-arcs] MODE REPORT DOC... | verify [--old-arcs] MODE CERTIFICATE REPORT DOC... | sample N\n";
+use xc_lines::usage_line;
 
 /// Does what the words ask for, over the files of the shelf, and writes the answer to the sink in one put.
 ///
-/// The words are those after the program's name. Accepted are `sum rounding REPORT TOTAL TERM...` with one TERM or
-/// more: REPORT is a file's name, not empty and without `-` at its head; TOTAL is the name `prefix:local` of a concept;
-/// a TERM is `+` or `-` and such a name.
+/// The words are those after the program's name. Accepted are
+///
+/// - `sum MODE REPORT TOTAL TERM...` with one TERM or more: TOTAL is the name `prefix:local` of a concept; a TERM is
+///   `+` or `-` and such a name;
+/// - `check [--old-arcs] MODE REPORT DOC...` with one DOC or more.
+///
+/// MODE is `rounding` or `truncation`. REPORT and each DOC are names of files, not empty and without `-` at their
+/// heads.
 pub fn run<S: Shelf, O: Sink>(alloc: Global, words: &[String], shelf: &mut S, out: &mut O) -> Status
     // What is written is the answer of the words and the files, and the status is the answer's.
     ensures answer { IfSome (S.held shelf.old) (λ files. IsAnswered result →
         (text : List ℕ) × IsAnswerOf (texts words.now) files (make_answer result text)
         × Appends (O.written out.old) (O.written out.new) text) }
 
-    // Only where the files that the words name are held.
+    // Only where the files that the words name are held, up to one that is too long.
     ensures held { IfSome (S.held shelf.old) (λ files. IsAnswered result →
-        AreHeld (words_of (texts words.now)) files) }
+        HasFiles (words_of (texts words.now)) files) }
 
     // Usage exactly where the words are not accepted.
     ensures usage { words_of (texts words.now) ≡ None → (result ≡ Status.Usage) ⊎ (result ≡ Status.WriteFault) }
@@ -53,32 +58,32 @@ pub fn run<S: Shelf, O: Sink>(alloc: Global, words: &[String], shelf: &mut S, ou
     // Want of memory leaves nothing.
     ensures memory { result ≡ Status.Memory → Keeps (O.written out.old) (O.written out.new) }
 
-    // Where nothing fails there is an answer, and a plain report is judged.
+    // Where nothing fails there is an answer, and where nothing is refused the bindings are judged.
     ensures completes { IfSome (S.held shelf.old) (λ files. ¬ Rose (S.faults shelf.old) (S.faults shelf.new) →
         ¬ Rose (O.faults out.old) (O.faults out.new) →
         (result ≡ Status.Memory) ⊎ ((answer : Answer) × IsAnswerOf (texts words.now) files answer × (result ≡ answer.status))) }
     ensures settles { IfSome (S.held shelf.old) (λ files. ¬ Rose (S.faults shelf.old) (S.faults shelf.new) →
-        ¬ Rose (O.faults out.old) (O.faults out.new) → IsPlainRun (words_of (texts words.now)) files →
-        (result ≡ Status.Memory) ⊎ IsSettled result) }
+        ¬ Rose (O.faults out.old) (O.faults out.new) → IsUnrefused (texts words.now) files →
+        (result ≡ Status.Memory) ⊎ IsJudged result) }
 {
-    let Some(sum) = read_words(words) else {
-        return write_text(out, USAGE, Status::Usage);
+    let Some(command) = read_words(words) else {
+        return write_text(out, usage_line().as_bytes(), Status::Usage);
     };
-    match answer_sum(alloc, &sum, shelf) {
-        Ok(answer) => write_text(out, answer.text.as_str(), answer.status),
+    match answer_command(alloc, &command, shelf) {
+        Ok(answer) => write_text(out, answer.text.as_slice(), answer.status),
         Err(_) => Status::Memory,
     }
 }
 
 // Writes all that a run writes, in one put.
-fn write_text<O: Sink>(out: &mut O, text: &str, status: Status) -> Status
+fn write_text<O: Sink>(out: &mut O, text: &[u8], status: Status) -> Status
     requires { status ≢ Status.WriteFault }
     ensures written { result ≢ Status.WriteFault → (result ≡ status) × Appends (O.written out.old) (O.written out.new) text.now }
     ensures fault { result ≡ Status.WriteFault → Rose (O.faults out.old) (O.faults out.new) }
     ensures part { result ≡ Status.WriteFault →
         AppendsPart (O.room out.old) (O.written out.old) (O.written out.new) text.now }
 {
-    match out.put(text.as_bytes()) {
+    match out.put(text) {
         Ok(()) => status,
         Err(SinkFault::Failed) => Status::WriteFault,
     }

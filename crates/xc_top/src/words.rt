@@ -1,8 +1,9 @@
 // The words of a command line.
 ghost use Rattle.std.specs.Prelude.{◌≡◌, option_map, string_bytes, map};
-ghost use Rattle.xc_top.specs.Words.{words_of, texts, mode_of, is_file_word, is_name_word, is_signed, is_term_word, is_sum, are_terms, name_of, is_negative};
-ghost use Rattle.xc_top.specs.Named.{named};
+ghost use Rattle.xc_top.specs.Named.{named, named_check, named_sum};
+ghost use Rattle.xc_top.specs.Words.{SumOf, CheckOf, words_of, sum_of, check_of, check_of_kind, texts, mode_of, is_file_word, are_file_words, is_name_word, is_signed, is_term_word, is_sum, are_terms, name_of, is_negative};
 
+use xc_calc::ArcKind;
 use xc_interval::Mode;
 use xc_names::split;
 
@@ -19,15 +20,66 @@ pub struct Sum<'a> {
     pub terms: &'a [String],
 }
 
-/// What these words name, where they are accepted.
-pub fn read_words(words: &[String]) -> Option<Sum<'_>>
+/// What the words of `check` name.
+#[derive(Drop)]
+pub struct Check<'a> {
+    /// Which arcs count.
+    pub kind: ArcKind,
+    /// How the report's values were made.
+    pub mode: Mode,
+    /// The report's file.
+    pub report: &'a str,
+    /// The files of the taxonomy's documents.
+    pub documents: &'a [String],
+}
+
+/// What accepted words ask for.
+#[derive(Drop)]
+pub enum Command<'a> {
+    Sum(Sum<'a>),
+    Check(Check<'a>),
+}
+
+/// What these words ask for, where they are accepted.
+pub fn read_words(words: &[String]) -> Option<Command<'_>>
     ensures { option_map named result ≡ words_of (texts words.now) }
 {
     let (command, words) = words.split_first()?;
+    if command.as_str() == "sum" {
+        return as_sum(read_sum(words));
+    }
+    if command.as_str() == "check" {
+        return as_check(read_check(words));
+    }
+    None
+}
+
+fn as_sum(sum: Option<Sum<'_>>) -> Option<Command<'_>>
+    ensures { option_map named result ≡ option_map SumOf (option_map named_sum sum.entry) }
+{
+    match sum {
+        Some(sum) => Some(Command::Sum(sum)),
+        None => None,
+    }
+}
+
+fn as_check(check: Option<Check<'_>>) -> Option<Command<'_>>
+    ensures { option_map named result ≡ option_map CheckOf (option_map named_check check.entry) }
+{
+    match check {
+        Some(check) => Some(Command::Check(check)),
+        None => None,
+    }
+}
+
+// What the words behind `sum` name.
+fn read_sum(words: &[String]) -> Option<Sum<'_>>
+    ensures { option_map named_sum result ≡ sum_of (texts words.now) }
+{
     let (mode, words) = words.split_first()?;
     let (report, words) = words.split_first()?;
     let (total, terms) = words.split_first()?;
-    if !is_sum(command.as_str(), report.as_str(), total.as_str(), terms) {
+    if !is_sum(report.as_str(), total.as_str(), terms) {
         return None;
     }
     let mode = mode_of(mode.as_str())?;
@@ -36,6 +88,35 @@ pub fn read_words(words: &[String]) -> Option<Sum<'_>>
         report: report.as_str(),
         total: total.as_str(),
         terms,
+    })
+}
+
+// What the words behind `check` name.
+fn read_check(words: &[String]) -> Option<Check<'_>>
+    ensures { option_map named_check result ≡ check_of (texts words.now) }
+{
+    let (first, rest) = words.split_first()?;
+    if first.as_str() == "--old-arcs" {
+        return read_files(ArcKind::Old, rest);
+    }
+    read_files(ArcKind::New, words)
+}
+
+// What they name without the one that chooses the arcs.
+fn read_files(kind: ArcKind, words: &[String]) -> Option<Check<'_>>
+    ensures { option_map named_check result ≡ check_of_kind kind (texts words.now) }
+{
+    let (mode, words) = words.split_first()?;
+    let (report, documents) = words.split_first()?;
+    if !(is_file_word(report.as_str()) && are_file_words(documents)) {
+        return None;
+    }
+    let mode = mode_of(mode.as_str())?;
+    Some(Check {
+        kind,
+        mode,
+        report: report.as_str(),
+        documents,
     })
 }
 
@@ -51,10 +132,10 @@ fn mode_of(word: &str) -> Option<Mode>
     }
 }
 
-fn is_sum(command: &str, report: &str, total: &str, terms: &[String]) -> bool
-    ensures { result ≡ is_sum command.now report.now total.now (texts terms.now) }
+fn is_sum(report: &str, total: &str, terms: &[String]) -> bool
+    ensures { result ≡ is_sum report.now total.now (texts terms.now) }
 {
-    command == "sum" && is_file_word(report) && is_name_word(total) && are_terms(terms)
+    is_file_word(report) && is_name_word(total) && are_terms(terms)
 }
 
 fn are_terms(terms: &[String]) -> bool
@@ -66,6 +147,17 @@ fn are_terms(terms: &[String]) -> bool
         }
     }
     !terms.is_empty()
+}
+
+fn are_file_words(words: &[String]) -> bool
+    ensures { result ≡ are_file_words (texts words.now) }
+{
+    for word in words {
+        if !is_file_word(word.as_str()) {
+            return false;
+        }
+    }
+    !words.is_empty()
 }
 
 fn is_file_word(word: &str) -> bool

@@ -1,8 +1,8 @@
 use Rattle.std.proofs.Common.{◌≡◌}
 use Rattle.std.specs.List.{list_all}
 use Rattle.serde_json.specs.View.{members_view}
-use Rattle.xc_report.specs.Keys.{member_list}
-use Rattle.xc_report.specs.Plain.{is_text}
+use Rattle.xc_report.specs.Json.{member_list}
+use Rattle.xc_report.specs.Json.{is_text}
 use Rattle.xc_report.proofs.parts.each_is_text.Given as goal
 
 -- the members so far are texts

@@ -1,0 +1,134 @@
+-- The bindings of networks name points and networks, and there are no more points than facts.
+use Rattle.std.proofs.Common.{◌≡◌, ◌==◌, ℕ, zero, suc, cond, ◌+◌, ◌*◌, ◌^◌, ◌<◌, ◌≤◌, List, [], ◌∷◌, ◌++◌, length, map, filter_map, flat_map, filter, Bool, true, false, not, nat_lt, Option, Some, None, IfSome, All, option_map, refl, sym, ap, subst, ◌∙◌, arith}
+use Rattle.std.proofs.lemmas.Bool.Decides.{nat_tests}
+use Rattle.std.proofs.lemmas.List.{length-map}
+use Rattle.std.proofs.lemmas.List.Elements.{All-nil, All-cons, All-append, All-weaker}
+use Rattle.std.specs.List.{cons_option, enumerate_from, position_from, range_with_len}
+use Rattle.xc_bind.specs.Bindings.{is_point_of, number_of, arcs_from, term_with, term_of, terms_of, with_terms, binding_of, bindings_in, bindings_of}
+use Rattle.xc_bind.specs.declared.types.Binding.{Binding}
+use Rattle.xc_bind.specs.declared.types.Term.{Term}
+use Rattle.xc_calc.specs.declared.arc.Arc.{Arc}
+use Rattle.xc_calc.specs.declared.arc.Network.{Network}
+use Rattle.xc_interval.specs.declared.mode.Mode.{Mode}
+use Rattle.xc_lines.specs.Findings.{NameTotals, NameNetworks}
+use Rattle.xc_points.specs.Gathered.{ArePoints, group_of, group_with, groups, first_of_point, first_facts, numbers}
+use Rattle.xc_points.specs.Kept.{Gathered}
+use Rattle.xc_points.specs.declared.types.Point.{Point}
+use Rattle.xc_report.specs.declared.reports.Fact.{Fact}
+use Rattle.xc_top.specs.Judged.{are_too_many}
+use Rattle.xc_top.specs.Placed.{IsPlaced}
+use Rattle.xc_verdict.specs.Ranges.{IsInside}
+
+-- ---- lists
+
+all_consed : {Y : Type 0} (P : Y → Type 0) (o : Option Y) (ys : List Y) → IfSome o P → All P ys → All P (cons_option o ys)
+all_consed P None ys h rest = rest
+all_consed P (Some y) ys h rest = All-cons P y ys h rest
+
+all_given : {X Y : Type 0} (P : Y → Type 0) (f : X → Option Y) → ((x : X) → IfSome (f x) P) → (xs : List X) → All P (filter_map f xs)
+all_given P f each [] = All-nil P
+all_given P f each (x ∷ xs) = all_consed P (f x) (filter_map f xs) (each x) (all_given P f each xs)
+
+-- of numbered things, each with a number below n
+all_numbered : {X Y : Type 0} (P : Y → Type 0) (f : ℕ × X → Option Y) (n : ℕ) → ((k : ℕ) (x : X) → k < n → IfSome (f (k, x)) P) → (k : ℕ) (xs : List X) → k + length xs ≤ n → All P (filter_map f (enumerate_from k xs))
+all_numbered P f n each k [] h = All-nil P
+all_numbered P f n each k (x ∷ xs) h = all_consed P (f (k, x)) (filter_map f (enumerate_from (k + 1) xs)) (each k x (omega arith)) (all_numbered P f n each (k + 1) xs (omega arith))
+
+all_flat : {X Y : Type 0} (P : Y → Type 0) (f : ℕ × X → List Y) (n : ℕ) → ((k : ℕ) (x : X) → k < n → All P (f (k, x))) → (k : ℕ) (xs : List X) → k + length xs ≤ n → All P (flat_map f (enumerate_from k xs))
+all_flat P f n each k [] h = All-nil P
+all_flat P f n each k (x ∷ xs) h = All-append P (f (k, x)) (flat_map f (enumerate_from (k + 1) xs)) (each k x (omega arith)) (all_flat P f n each (k + 1) xs (omega arith))
+
+found : {X : Type 0} (test : X → Bool) (k : ℕ) (xs : List X) → IfSome (position_from test k xs) (λ n. n < k + length xs)
+found test k [] = tt
+found test k (x ∷ xs) = by (test x) (found test (k + 1) xs)
+  where
+    longer : k + 1 + length xs ≡ k + suc (length xs)
+    longer = omega arith
+
+    by : (b : Bool) → IfSome (position_from test (k + 1) xs) (λ n. n < k + 1 + length xs) → IfSome (cond b (Some k) (position_from test (k + 1) xs)) (λ n. n < k + suc (length xs))
+    by true rest = omega arith
+    by false rest = subst (λ m. IfSome (position_from test (k + 1) xs) (λ n. n < m)) longer rest
+
+found_first : {X : Type 0} (test : X → Bool) (xs : List X) → IfSome (position_from test 0 xs) (λ n. n < length xs)
+found_first test xs =
+    let same : 0 + length xs ≡ length xs = omega arith in
+    subst (λ m. IfSome (position_from test 0 xs) (λ n. n < m)) same (found test 0 xs)
+
+-- ---- bindings
+
+module _ (networks : List Network) (points : List Point) where
+  -- the binding names one of the networks, and points
+  pub record IsKnown (binding : Binding) : Type 0 where
+    pub network : binding.network < length networks
+    pub total : binding.total < length points
+    pub terms : All (IsInside points) binding.terms
+
+  term_inside : (weight : _) (o : Option ℕ) → IfSome o (λ n. n < length points) → IfSome (option_map (term_with weight) o) (IsInside points)
+  term_inside weight None h = tt
+  term_inside weight (Some n) h = h
+
+  terms_inside : (arcs : List Arc) (total : Point) → All (IsInside points) (terms_of points arcs total)
+  terms_inside arcs total = all_given (IsInside points) (term_of points total.key) (λ arc. term_inside arc.weight (number_of points arc.to total.key) (found_first (is_point_of arc.to total.key) points)) (arcs_from arcs total.concept)
+
+  known : (network total : ℕ) (terms : List Term) → network < length networks → total < length points → All (IsInside points) terms → IfSome (with_terms network total terms) IsKnown
+  known network total [] n t inside = tt
+  known network total (term ∷ terms) n t inside = record { network = n; total = t; terms = inside }
+
+  pub all_known : All IsKnown (bindings_of networks points)
+  all_known = all_flat IsKnown (bindings_in points) (length networks) (λ n network below.
+      all_numbered IsKnown (binding_of points n network.arcs) (length points) (λ k point within.
+      known n k (terms_of points network.arcs point) below within (terms_inside network.arcs point)) 0 points (omega arith)) 0 networks (omega arith)
+
+  pub all_placed : All (IsPlaced points) (bindings_of networks points)
+  all_placed = All-weaker IsKnown (IsPlaced points) (λ b k. record { total = k.total; terms = k.terms }) (bindings_of networks points) all_known
+
+  pub totals_named : NameTotals points (bindings_of networks points)
+  totals_named = All-weaker IsKnown (λ b. b.total < length points) (λ b k. k.total) (bindings_of networks points) all_known
+
+  pub networks_named : NameNetworks networks (bindings_of networks points)
+  networks_named = All-weaker IsKnown (λ b. b.network < length networks) (λ b k. k.network) (bindings_of networks points) all_known
+
+-- ---- how many
+
+fewer : {X Y : Type 0} (f : X → Option Y) (xs : List X) → length (filter_map f xs) ≤ length xs
+fewer f [] = omega arith
+fewer f (x ∷ xs) = by (f x) (fewer f xs)
+  where
+    by : (o : Option _) → length (filter_map f xs) ≤ length xs → length (cons_option o (filter_map f xs)) ≤ suc (length xs)
+    by None h = omega arith
+    by (Some y) h = omega arith
+
+range_length : (k n : ℕ) → length (range_with_len k n) ≡ n
+range_length k zero = refl
+range_length k (suc n) = ap suc (range_length (k + 1) n)
+
+-- there are no more points than facts
+pub few_points : (mode : Mode) (facts : List Fact) (gathered : Gathered) → ArePoints mode facts gathered → length gathered.points ≤ length facts
+few_points mode facts gathered are =
+    let same : length gathered.points ≡ length (first_facts facts) =
+    sym (length-map gathered.points group_of) ∙ ap (λ (gs : List _). length gs) are.groups_are ∙ length-map (first_facts facts) (group_with facts) in
+    let less : length (first_facts facts) ≤ length (numbers facts) = fewer (first_of_point facts) (numbers facts) in
+    let all : length (numbers facts) ≡ length facts = range_length 0 (length facts) in
+    omega arith
+
+-- where facts are not too many, their number fits
+few : (n : ℕ) → not (nat_lt n (2 ^ 31)) ≡ false → n < 2 ^ 31
+few n h = grind (arith, nat_tests)
+
+pub few_facts : (facts networks : ℕ) → are_too_many facts networks ≡ false → facts < 2 ^ 31
+few_facts facts networks h =
+    let all : facts * (networks + 1) < 2 ^ 31 = few (facts * (networks + 1)) h in
+    omega arith
+
+-- and the number of networks times that of points
+pub few_pairs : (facts networks points : ℕ) → are_too_many facts networks ≡ false → points ≤ facts → networks * points < 2 ^ 31
+few_pairs facts networks points h less =
+    let all : facts * (networks + 1) < 2 ^ 31 = few (facts * (networks + 1)) h in
+    let product : networks * points ≤ networks * facts = mul_below networks points facts less in
+    omega arith
+  where
+    mul_below : (n p f : ℕ) → p ≤ f → n * p ≤ n * f
+    mul_below zero p f h = omega arith
+    mul_below (suc n) p f h =
+        let rest : n * p ≤ n * f = mul_below n p f h in
+        omega arith

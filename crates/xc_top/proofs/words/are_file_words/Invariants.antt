@@ -1,0 +1,8 @@
+use Rattle.std.proofs.Common.{◌≡◌, drop}
+use Rattle.std.specs.List.{list_all}
+use Rattle.xc_top.specs.Words.{texts, is_file_word}
+use Rattle.xc_top.proofs.words.are_file_words.Given as goal
+
+-- the words so far have passed
+abbrev pub invariant-loop-word : goal.invariant-loop-word
+invariant-loop-word l = list_all is_file_word (texts l.words) ≡ list_all is_file_word (texts (drop l.word-index l.words))

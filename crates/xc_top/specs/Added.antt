@@ -1,0 +1,16 @@
+-- One more document of a taxonomy.
+use Rattle.std.specs.Prelude.{◌≡◌, List, Option, Some, None, option_and_then}
+use Rattle.xc_calc.specs.Ends.{file_name}
+use Rattle.xc_concepts.specs.Held.{IsWith}
+use Rattle.xc_concepts.specs.declared.schema.Schema.{Schema}
+use Rattle.xc_top.specs.Taxonomies.{Part, schema_broken}
+use Rattle.xc_top.specs.declared.status.Answer.{Answer}
+
+-- the schemas, with what the schema of this document declares at their end; a document that is none leaves them as they are
+abbrev pub IsAdded : Option Part → List Schema → List Schema → Type 0
+IsAdded None old new = new ≡ old
+IsAdded (Some part) old new = IsWith (file_name part.word) part.nodes old new
+
+-- what is answered of the schema of this document, where it is one and breaks a rule beside the earlier ones
+abbrev pub broken_beside : List Schema → Option Part → Option Answer
+broken_beside earlier part = option_and_then (schema_broken earlier) part

@@ -1,0 +1,76 @@
+// What `check` answers.
+ghost use Rattle.std.specs.Prelude.{◌≡◌, IfOk};
+ghost use Rattle.xc_report.specs.Opened.{opened};
+ghost use Rattle.xc_top.specs.Answers.{Answers, IfStopped};
+ghost use Rattle.xc_top.specs.Checks.{IsDocumentsAnswer, IsOpenedAnswer, check_asked};
+ghost use Rattle.xc_top.specs.Named.{named_check};
+ghost use Rattle.xc_top.specs.Run.{IsSettled};
+ghost use Rattle.xc_top.specs.Taxonomies.{IsTaxonomyOf, IsTaxonomyRefusal};
+ghost use Rattle.xc_top.specs.Views.{asked};
+
+use crate::documents::Document;
+use crate::judged::{Question, answer_facts};
+use crate::refusals::report_refusal;
+use crate::status::{Answer, Stop};
+use crate::taxonomy::{Taxonomy, taxonomy_of};
+use crate::words::Check;
+use std::alloc::Global;
+use xc_report::open_report;
+
+/// What is answered of the report's bytes and the documents. The documents are let go before the report is read.
+pub fn answer_documents(
+    alloc: Global,
+    check: &Check<'_>,
+    report: &[u8],
+    documents: Vec<Document>,
+) -> Result<Answer, Stop>
+    ensures answer { Answers result (λ answer. IsDocumentsAnswer (named_check check.now) report.now documents.items answer) }
+    ensures settles { Answers result (λ answer. IsSettled answer.status) }
+{
+    let taxonomy = taxonomy_in(alloc, check, documents)?;
+    answer_over(alloc, check, report, taxonomy)
+}
+
+// What these documents say together.
+fn taxonomy_in(alloc: Global, check: &Check<'_>, documents: Vec<Document>) -> Result<Taxonomy, Stop>
+    ensures taxonomy { IfOk result (λ taxonomy. IsTaxonomyOf check.now.kind documents.items taxonomy.names taxonomy.networks.items taxonomy.wanted) }
+    ensures refused { IfStopped result (λ answer. IsTaxonomyRefusal check.now.kind documents.items answer) }
+    ensures status { IfStopped result (λ answer. IsSettled answer.status) }
+{
+    taxonomy_of(alloc, check.kind, documents.as_slice())
+}
+
+// What is answered of the report's bytes over a taxonomy.
+fn answer_over(
+    alloc: Global,
+    check: &Check<'_>,
+    report: &[u8],
+    taxonomy: Taxonomy,
+) -> Result<Answer, Stop>
+    ensures answer { Answers result (λ answer. IsOpenedAnswer (named_check check.now) taxonomy.names taxonomy.networks.items taxonomy.wanted (opened report.now) answer) }
+    ensures settles { Answers result (λ answer. IsSettled answer.status) }
+{
+    let mut taxonomy = taxonomy;
+    let question = question_of(check);
+    match open_report(alloc, report) {
+        Ok(draft) => answer_facts(
+            alloc,
+            &question,
+            draft,
+            &mut taxonomy.names,
+            taxonomy.networks.as_slice(),
+            &taxonomy.wanted,
+        ),
+        Err(fault) => Err(report_refusal(alloc, check.report, &fault)),
+    }
+}
+
+fn question_of<'a>(check: &Check<'a>) -> Question<'a>
+    ensures { asked result ≡ check_asked (named_check check.now) }
+{
+    Question {
+        report: check.report,
+        mode: check.mode,
+        close: "joint not asked\n",
+    }
+}

@@ -1,0 +1,153 @@
+// The files of a run, and the documents in them.
+ghost use Rattle.std.specs.Prelude.{◌≡◌, ◌≤◌, ◌<◌, ◌^◌, ◌∷◌, [], ℕ, List, Some, None, true, length, map, IfOk, IfSome, OnOk};
+ghost use Rattle.xc_io.specs.Faults.{Rose};
+ghost use Rattle.xc_concepts.specs.Places.{first_given};
+ghost use Rattle.xc_top.specs.Answers.{IfStopped, unread};
+ghost use Rattle.xc_top.specs.Documents.{limit, unfetched, first_unfetched, IsDocumentOf, AreDocumentsOf, IsContentOf, root_refusal, document_refusal, first_unread};
+ghost use Rattle.xc_top.specs.Run.{IsReadFaultOf, IsEnding, IsSettled};
+ghost use Rattle.xc_top.specs.Words.{texts};
+ghost use Rattle.xc_top.specs.declared.status.Status.TheVariants as status;
+
+use crate::refusals::{refused, tree_refusal, unread};
+use crate::status::Stop;
+use std::alloc::Global;
+use xc_calc::is_linkbase;
+use xc_concepts::is_schema;
+use xc_elements::{Tree, TreeFault, read_tree};
+use xc_frac::{Memory, Text};
+use xc_io::{Shelf, ShelfFault};
+
+/// The greatest size of a file, in bytes.
+const LIMIT: usize = 67_108_864;
+
+/// What the bytes of a document hold.
+#[derive(Drop)]
+pub enum Content {
+    /// The elements of an XML document.
+    Elements(Tree),
+    /// The first fault of what is none.
+    Broken(TreeFault),
+}
+
+/// A document with the word that names its file.
+#[derive(Drop)]
+pub struct Document {
+    pub word: Text,
+    pub content: Content,
+}
+
+/// The bytes that are held under a word, at most the limit.
+pub fn fetch<S: Shelf>(alloc: Global, word: &str, shelf: &mut S) -> Result<Vec<u8>, Stop>
+    // Where the fetch did not fail, it is told what is held.
+    ensures held { IfOk result (λ bytes. IfSome (S.held shelf.old) (λ files. files word.now ≡ Some bytes.items)) }
+    ensures short { IfOk result (λ bytes. length bytes.items ≤ limit) }
+    ensures fetched { IfOk result (λ bytes. IfSome (S.held shelf.old) (λ files. unfetched files word.now ≡ None)) }
+    ensures refused { IfStopped result (λ answer. ¬ (answer.status ≡ status.ReadFault) →
+        IfSome (S.held shelf.old) (λ files. unfetched files word.now ≡ Some answer)) }
+
+    // A fetch failed only where the count rose, and on a steady shelf where nothing is held.
+    ensures read { IfStopped result (λ answer. answer.status ≡ status.ReadFault →
+        Rose (S.faults shelf.old) (S.faults shelf.new)) }
+    ensures read_line { IfStopped result (λ answer. answer.status ≡ status.ReadFault → answer ≡ unread word.now) }
+    ensures read_steady { IfStopped result (λ answer. answer.status ≡ status.ReadFault → S.steady shelf.old ≡ true →
+        IfSome (S.held shelf.old) (λ files. unfetched files word.now ≡ Some answer)) }
+
+    ensures ends { IfStopped result (λ answer. IsEnding answer.status) }
+    ensures same { S.held shelf.new ≡ S.held shelf.old }
+    ensures stays { S.steady shelf.old ≡ true → S.steady shelf.new ≡ true }
+    ensures later { S.faults shelf.old ≤ S.faults shelf.new }
+{
+    match shelf.fetch(word, LIMIT) {
+        Ok(bytes) => Ok(bytes),
+        Err(ShelfFault::TooLong) => Err(refused(alloc, word, "xc:tooLong")),
+        Err(ShelfFault::Memory) => Err(Stop::Memory),
+        Err(ShelfFault::Failed) => Err(unread(alloc, word)),
+    }
+}
+
+/// The documents of these words in their order. Each is read at once, and its bytes are let go.
+pub fn fetch_documents<S: Shelf>(
+    alloc: Global,
+    words: &[String],
+    shelf: &mut S,
+) -> Result<Vec<Document>, Stop>
+    ensures documents { IfOk result (λ documents. IfSome (S.held shelf.old) (λ files. AreDocumentsOf files (texts words.now) documents.items)) }
+    ensures fetched { IfOk result (λ documents. IfSome (S.held shelf.old) (λ files. first_unfetched files (texts words.now) ≡ None)) }
+    ensures refused { IfStopped result (λ answer. ¬ (answer.status ≡ status.ReadFault) →
+        IfSome (S.held shelf.old) (λ files. first_unfetched files (texts words.now) ≡ Some answer)) }
+
+    ensures read { IfStopped result (λ answer. answer.status ≡ status.ReadFault →
+        Rose (S.faults shelf.old) (S.faults shelf.new)) }
+    ensures read_line { IfStopped result (λ answer. answer.status ≡ status.ReadFault → IsReadFaultOf (texts words.now) answer.text) }
+    ensures read_steady { IfStopped result (λ answer. answer.status ≡ status.ReadFault → S.steady shelf.old ≡ true →
+        IfSome (S.held shelf.old) (λ files. first_unfetched files (texts words.now) ≡ Some answer)) }
+
+    ensures ends { IfStopped result (λ answer. IsEnding answer.status) }
+    ensures later { S.faults shelf.old ≤ S.faults shelf.new }
+{
+    let mut documents = Vec::new(alloc);
+    for word in words {
+        let bytes = fetch(alloc, word.as_str(), shelf)?;
+        documents.push(document_of(alloc, word.as_str(), &bytes)?)?;
+    }
+    Ok(documents)
+}
+
+// The document of these bytes.
+fn document_of(alloc: Global, word: &str, bytes: &[u8]) -> Result<Document, Memory>
+    requires { length bytes.now ≤ limit }
+    ensures word { IfOk result (λ document. document.word ≡ word.now) }
+    ensures content { IfOk result (λ document. IsContentOf bytes.now document.content) }
+{
+    Ok(Document {
+        word: Text::of(String::from_str(alloc, word)?),
+        content: content_of(alloc, bytes)?,
+    })
+}
+
+// What the bytes of a document hold.
+fn content_of(alloc: Global, bytes: &[u8]) -> Result<Content, Memory>
+    requires { length bytes.now ≤ limit }
+    ensures { IfOk result (λ content. IsContentOf bytes.now content) }
+{
+    match read_tree(alloc, bytes) {
+        Ok(tree) => Ok(Content::Elements(tree)),
+        Err(TreeFault::Memory) => Err(Memory),
+        Err(fault) => Ok(Content::Broken(fault)),
+    }
+}
+
+/// Sees to it that each document is a schema or a linkbase.
+pub fn are_taxonomies(alloc: Global, documents: &[Document]) -> Result<(), Stop>
+    ensures read { OnOk result (first_unread documents.now ≡ None) }
+    ensures refused { IfStopped result (λ answer. first_unread documents.now ≡ Some answer) }
+    ensures status { IfStopped result (λ answer. IsSettled answer.status) }
+{
+    for document in documents {
+        is_taxonomy(alloc, document)?;
+    }
+    Ok(())
+}
+
+fn is_taxonomy(alloc: Global, document: &Document) -> Result<(), Stop>
+    ensures read { OnOk result (document_refusal document.now ≡ None) }
+    ensures refused { IfStopped result (λ answer. document_refusal document.now ≡ Some answer) }
+    ensures status { IfStopped result (λ answer. IsSettled answer.status) }
+{
+    match &document.content {
+        Content::Elements(tree) => has_known_root(alloc, document.word.as_str(), tree),
+        Content::Broken(fault) => Err(tree_refusal(alloc, document.word.as_str(), *fault)),
+    }
+}
+
+fn has_known_root(alloc: Global, word: &str, tree: &Tree) -> Result<(), Stop>
+    ensures read { OnOk result (root_refusal word.now tree.now ≡ None) }
+    ensures refused { IfStopped result (λ answer. root_refusal word.now tree.now ≡ Some answer) }
+    ensures status { IfStopped result (λ answer. IsSettled answer.status) }
+{
+    if is_schema(tree) || is_linkbase(tree) {
+        Ok(())
+    } else {
+        Err(refused(alloc, word, "xc:notTaxonomy"))
+    }
+}

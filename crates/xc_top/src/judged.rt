@@ -1,0 +1,106 @@
+// What is answered of the facts of a report.
+ghost use Rattle.std.specs.Prelude.{◌≡◌, ◌<◌, ◌*◌, ◌+◌, ◌^◌, IfOk, length, false};
+ghost use Rattle.xc_report.specs.Drafts.{draft_view};
+ghost use Rattle.xc_top.specs.Answers.{Answers};
+ghost use Rattle.xc_top.specs.Judged.{IsFactsAnswer, IsCounted, IsFindings, are_too_many};
+ghost use Rattle.xc_top.specs.Run.{IsSettled};
+ghost use Rattle.xc_top.specs.Views.{asked};
+
+use crate::refusals::{refused, report_refusal};
+use crate::status::{Answer, Stop};
+use crate::verdicts::{status_of, verdicts_of};
+use std::alloc::Global;
+use xc_bind::bindings;
+use xc_calc::Network;
+use xc_frac::{Items, Memory};
+use xc_interval::Mode;
+use xc_lines::findings;
+use xc_lines::laws::points_carry_facts;
+use xc_names::{Names, Wanted};
+use xc_points::points;
+use xc_report::{Draft, Report};
+
+/// What is asked of a report.
+#[derive(Drop)]
+pub struct Question<'a> {
+    /// The word of its file.
+    pub report: &'a str,
+    /// How its values were made.
+    pub mode: Mode,
+    /// The lines behind the findings.
+    pub close: &'a str,
+}
+
+/// The findings of the facts of an opened report, or their fault.
+pub fn answer_facts(
+    alloc: Global,
+    question: &Question<'_>,
+    draft: Draft,
+    names: &mut Names,
+    networks: &[Network],
+    wanted: &Wanted,
+) -> Result<Answer, Stop>
+    ensures answer { Answers result (λ answer. IsFactsAnswer (asked question.now) names.old networks.now wanted.now (draft_view draft) answer) }
+    ensures settles { Answers result (λ answer. IsSettled answer.status) }
+{
+    match draft.facts(names, wanted) {
+        Ok(report) => answer_report(alloc, question, &report, networks),
+        Err(fault) => Err(report_refusal(alloc, question.report, &fault)),
+    }
+}
+
+// The findings of a report, where its facts are not too many for the networks.
+fn answer_report(
+    alloc: Global,
+    question: &Question<'_>,
+    report: &Report,
+    networks: &[Network],
+) -> Result<Answer, Stop>
+    ensures answer { Answers result (λ answer. IsCounted (asked question.now) networks.now report.now.facts answer) }
+    ensures settles { Answers result (λ answer. IsSettled answer.status) }
+{
+    if are_too_many(report.facts.as_slice().len(), networks.len()) {
+        return Err(refused(alloc, question.report, "xc:tooMany"));
+    }
+    Ok(answer_findings(alloc, question, report, networks)?)
+}
+
+// Whether the number of facts, times one more than the number of networks, is too great.
+fn are_too_many(facts: usize, networks: usize) -> bool
+    ensures { result ≡ are_too_many facts networks }
+{
+    (facts as u128) * (networks as u128 + 1) >= 2_147_483_648
+}
+
+// The findings of a report.
+fn answer_findings(
+    alloc: Global,
+    question: &Question<'_>,
+    report: &Report,
+    networks: &[Network],
+) -> Result<Answer, Memory>
+    requires { are_too_many (length report.now.facts) (length networks.now) ≡ false }
+    ensures answer { IfOk result (λ answer. IsFindings (asked question.now) networks.now report.now.facts answer) }
+    ensures settles { IfOk result (λ answer. IsSettled answer.status) }
+{
+    // The numbers in the points are those of the report's facts.
+    points_carry_facts();
+    let points = points(alloc, report, question.mode)?;
+    let list = points.as_slice();
+    let bindings = bindings(alloc, networks, &points)?;
+    let verdicts = verdicts_of(alloc, &bindings, &points)?;
+    let mut text = findings(
+        alloc,
+        report,
+        &points,
+        networks,
+        &bindings,
+        &verdicts,
+        question.mode,
+    )?;
+    text.extend_from_slice(question.close.as_bytes())?;
+    Ok(Answer {
+        status: status_of(list, &verdicts),
+        text: Items::of(text),
+    })
+}

@@ -1,0 +1,154 @@
+// What the documents of a taxonomy say together.
+ghost use Rattle.std.specs.Prelude.{◌≡◌, [], List, None, Some, option_map, option_and_then, option_to_list, IfOk, OnOk};
+ghost use Rattle.xc_calc.specs.Linked.{with_arcs};
+ghost use Rattle.xc_concepts.specs.Held.{AreHeld};
+ghost use Rattle.xc_concepts.specs.declared.schema.Schema.{Schema};
+ghost use Rattle.xc_top.specs.Answers.{IfStopped};
+ghost use Rattle.xc_top.specs.Added.{IsAdded, broken_beside};
+ghost use Rattle.xc_top.specs.Run.{IsSettled};
+ghost use Rattle.xc_top.specs.Taxonomies.{AreSchemasOf, IsTaxonomyOf, IsTaxonomyRefusal, schemas_in, linkbases_in, schema_in, linkbase_in, schema_broken, link_broken, first_schema_broken, first_link_broken, arcs_of, part_of};
+
+use crate::documents::{Content, Document, are_taxonomies};
+use crate::refusals::{link_refusal, schema_refusal};
+use crate::status::Stop;
+use std::alloc::Global;
+use xc_calc::{ArcKind, Arcs, Network, file_name, is_linkbase};
+use xc_concepts::{Concepts, is_schema};
+use xc_elements::Tree;
+use xc_names::{Names, Wanted};
+
+/// What a taxonomy says.
+#[derive(Drop)]
+pub struct Taxonomy {
+    /// The names of its concepts, and whatever further names are numbered.
+    pub names: Names,
+    /// The networks of its effective arcs, by role.
+    pub networks: Vec<Network>,
+    /// The concepts at the ends of its arcs, and its typed dimensions.
+    pub wanted: Wanted,
+}
+
+/// The schemas among these documents, added in their order.
+pub fn add_schemas(
+    alloc: Global,
+    names: &mut Names,
+    documents: &[Document],
+) -> Result<Concepts, Stop>
+    requires { names.old ≡ [] }
+    ensures schemas { IfOk result (λ concepts. AreSchemasOf (schemas_in documents.now) concepts) }
+    ensures held { IfOk result (λ concepts. AreHeld concepts names.new) }
+    ensures sound { IfOk result (λ concepts. first_schema_broken [] (schemas_in documents.now) concepts ≡ None) }
+    ensures refused { IfStopped result (λ answer. (schemas : List Schema) × AreSchemasOf (schemas_in documents.now) schemas
+        × (first_schema_broken [] (schemas_in documents.now) schemas ≡ Some answer)) }
+    ensures status { IfStopped result (λ answer. IsSettled answer.status) }
+{
+    let mut concepts = Concepts::new(alloc);
+    for document in documents {
+        add_schema(alloc, names, document, &mut concepts)?;
+    }
+    Ok(concepts)
+}
+
+// Adds the schema of a document, where it is one.
+fn add_schema(
+    alloc: Global,
+    names: &mut Names,
+    document: &Document,
+    concepts: &mut Concepts,
+) -> Result<(), Stop>
+    requires { AreHeld concepts.old names.old }
+    ensures added { OnOk result (IsAdded (schema_in document.now) concepts.old concepts.new) }
+    ensures sound { OnOk result (broken_beside concepts.old (schema_in document.now) ≡ None) }
+    ensures refused { IfStopped result (λ answer. broken_beside concepts.old (schema_in document.now) ≡ Some answer) }
+    ensures status { IfStopped result (λ answer. IsSettled answer.status) }
+    ensures held { AreHeld concepts.new names.new }
+{
+    let Some(tree) = schema_in(document) else {
+        return Ok(());
+    };
+    let word = document.word.as_str();
+    match concepts.add_schema(names, file_name(word), tree) {
+        Ok(()) => Ok(()),
+        Err(fault) => Err(schema_refusal(alloc, word, fault)),
+    }
+}
+
+// The elements of a schema.
+fn schema_in(document: &Document) -> Option<&Tree>
+    ensures { option_map (λ tree. part_of document.now.word tree.now) result ≡ schema_in document.now }
+{
+    match &document.content {
+        Content::Elements(tree) => if is_schema(tree) { Some(tree) } else { None },
+        Content::Broken(_) => None,
+    }
+}
+
+/// The arcs of the linkbases among these documents, added in their order.
+pub fn add_linkbases(
+    alloc: Global,
+    kind: ArcKind,
+    concepts: &Concepts,
+    documents: &[Document],
+) -> Result<Arcs, Stop>
+    ensures arcs { IfOk result (λ arcs. arcs.arcs ≡ arcs_of kind concepts.now (linkbases_in documents.now)) }
+    ensures sound { OnOk result (first_link_broken kind concepts.now (linkbases_in documents.now) ≡ None) }
+    ensures refused { IfStopped result (λ answer. first_link_broken kind concepts.now (linkbases_in documents.now) ≡ Some answer) }
+    ensures status { IfStopped result (λ answer. IsSettled answer.status) }
+{
+    let mut arcs = Arcs::new(alloc, kind);
+    for document in documents {
+        add_linkbase(alloc, concepts, document, &mut arcs)?;
+    }
+    Ok(arcs)
+}
+
+// Adds the arcs of a document, where it is a linkbase.
+fn add_linkbase(
+    alloc: Global,
+    concepts: &Concepts,
+    document: &Document,
+    arcs: &mut Arcs,
+) -> Result<(), Stop>
+    ensures added { OnOk result (arcs.new ≡ with_arcs arcs.old (arcs_of arcs.old.kind concepts.now (option_to_list (linkbase_in document.now)))) }
+    ensures sound { OnOk result (option_and_then (link_broken arcs.old.kind concepts.now) (linkbase_in document.now) ≡ None) }
+    ensures refused { IfStopped result (λ answer. option_and_then (link_broken arcs.old.kind concepts.now) (linkbase_in document.now) ≡ Some answer) }
+    ensures status { IfStopped result (λ answer. IsSettled answer.status) }
+{
+    let Some(tree) = linkbase_in(document) else {
+        return Ok(());
+    };
+    match arcs.add_linkbase(tree, concepts) {
+        Ok(()) => Ok(()),
+        Err(fault) => Err(link_refusal(alloc, document.word.as_str(), fault)),
+    }
+}
+
+// The elements of a linkbase.
+fn linkbase_in(document: &Document) -> Option<&Tree>
+    ensures { option_map (λ tree. part_of document.now.word tree.now) result ≡ linkbase_in document.now }
+{
+    match &document.content {
+        Content::Elements(tree) => if is_linkbase(tree) { Some(tree) } else { None },
+        Content::Broken(_) => None,
+    }
+}
+
+/// What these documents say together, or the first that is refused: each has to be a schema or a linkbase; then the
+/// schemas are added in their order, and then the linkbases.
+pub fn taxonomy_of(alloc: Global, kind: ArcKind, documents: &[Document]) -> Result<Taxonomy, Stop>
+    ensures taxonomy { IfOk result (λ taxonomy. IsTaxonomyOf kind documents.now taxonomy.names taxonomy.networks.items taxonomy.wanted) }
+    ensures refused { IfStopped result (λ answer. IsTaxonomyRefusal kind documents.now answer) }
+    ensures status { IfStopped result (λ answer. IsSettled answer.status) }
+{
+    are_taxonomies(alloc, documents)?;
+    let mut names = Names::new(alloc);
+    let concepts = add_schemas(alloc, &mut names, documents)?;
+    let arcs = add_linkbases(alloc, kind, &concepts, documents)?;
+    let networks = arcs.effective()?;
+    let wanted = arcs.wanted(&concepts)?;
+    Ok(Taxonomy {
+        names,
+        networks,
+        wanted,
+    })
+}

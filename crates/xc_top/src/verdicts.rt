@@ -1,0 +1,100 @@
+// The verdicts of all bindings, and how the run ends.
+ghost use Rattle.std.specs.Prelude.{◌≡◌, ◌||◌, ℕ, List, IfOk, All, length};
+ghost use Rattle.std.specs.List.{list_any};
+ghost use Rattle.xc_interval.specs.declared.mode.Mode.{Mode};
+ghost use Rattle.xc_lines.specs.Findings.{is_empty_range};
+ghost use Rattle.xc_points.specs.Gathered.{ArePoints};
+ghost use Rattle.xc_report.specs.declared.reports.Fact.{Fact};
+ghost use Rattle.xc_top.specs.Judged.{AreVerdicts, status_of, has_finding, is_inconsistent, is_empty_point, is_too_wide};
+ghost use Rattle.xc_top.specs.Placed.{IsPlaced};
+
+use crate::Status;
+use std::alloc::Global;
+use xc_bind::{Binding, Verdict};
+use xc_frac::Memory;
+use xc_interval::Range;
+use xc_points::{Point, Points};
+use xc_verdict::verdict;
+
+/// One verdict for each binding, in their order.
+pub fn verdicts_of(
+    alloc: Global,
+    bindings: &[Binding],
+    points: &Points,
+) -> Result<Vec<Verdict>, Memory>
+    requires { All (IsPlaced points.now.points) bindings.now }
+    ensures verdicts { IfOk result (λ verdicts. (mode : Mode) (facts : List Fact) → ArePoints mode facts points.now
+        → AreVerdicts mode facts points.now.points bindings.now verdicts.items) }
+    ensures length { IfOk result (λ verdicts. length verdicts.items ≡ length bindings.now) }
+{
+    let mut verdicts = Vec::new(alloc);
+    for binding in bindings {
+        verdicts.push(verdict(binding, points))?;
+    }
+    Ok(verdicts)
+}
+
+/// How the run ends: with findings where a total disagrees or no value satisfies a data point; else too wide where a
+/// binding is; else sound.
+pub fn status_of(points: &[Point], verdicts: &[Verdict]) -> Status
+    ensures { result ≡ status_of points.now verdicts.now }
+{
+    if has_finding(points, verdicts) {
+        Status::Findings
+    } else if any_too_wide(verdicts) {
+        Status::TooWide
+    } else {
+        Status::Sound
+    }
+}
+
+fn has_finding(points: &[Point], verdicts: &[Verdict]) -> bool
+    ensures { result ≡ has_finding points.now verdicts.now }
+{
+    any_inconsistent(verdicts) || any_empty(points)
+}
+
+fn any_inconsistent(verdicts: &[Verdict]) -> bool
+    ensures { result ≡ list_any is_inconsistent verdicts.now }
+{
+    verdicts.iter().any(|verdict| is_inconsistent(*verdict))
+}
+
+fn is_inconsistent(verdict: Verdict) -> bool
+    ensures { result ≡ is_inconsistent verdict }
+{
+    match verdict {
+        Verdict::Inconsistent => true,
+        Verdict::Consistent | Verdict::Unjudged | Verdict::TooWide => false,
+    }
+}
+
+fn any_too_wide(verdicts: &[Verdict]) -> bool
+    ensures { result ≡ list_any is_too_wide verdicts.now }
+{
+    verdicts.iter().any(|verdict| is_too_wide(*verdict))
+}
+
+fn is_too_wide(verdict: Verdict) -> bool
+    ensures { result ≡ is_too_wide verdict }
+{
+    match verdict {
+        Verdict::TooWide => true,
+        Verdict::Consistent | Verdict::Inconsistent | Verdict::Unjudged => false,
+    }
+}
+
+fn any_empty(points: &[Point]) -> bool
+    ensures { result ≡ list_any is_empty_point points.now }
+{
+    points.iter().any(|point| is_empty(&point.range))
+}
+
+fn is_empty(range: &Range) -> bool
+    ensures { result ≡ is_empty_range range.now }
+{
+    match range {
+        Range::Empty => true,
+        Range::Meets(_) | Range::Wide => false,
+    }
+}

@@ -6,3 +6,4 @@ mod Members
 mod OneAnswer
 mod PointPlaces
 mod RolesInOrder
+pub mod Placing

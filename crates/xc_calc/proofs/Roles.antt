@@ -1,49 +1,27 @@
 -- Roles that are noted in an ordered set, and the networks of them.
-use Rattle.std.proofs.Common.{◌≡◌, ◌<◌, ◌+◌, ◌||◌, ℕ, List, [], ◌∷◌, Bool, true, false, drop, get_or, length, map, Result, Ok, Err, IfOk, refl, sym, ap, subst, ◌∙◌}
+use Rattle.std.proofs.Common.{◌≡◌, ◌<◌, ◌+◌, ◌||◌, ℕ, List, [], ◌∷◌, Bool, drop, get_or, length, map, Result, Ok, Err, IfOk, sym, ap, subst, ◌∙◌}
 use Rattle.std.specs.BTreeSet.{insert_key}
 use Rattle.std.specs.Borrow.{Bor}
 use Rattle.std.specs.Cmp.Lexicographic.{slice_cmp}
 use Rattle.std.specs.FinMap.{nat_cmp-IsAntisymmetric, slice_cmp-IsAntisymmetric}
 use Rattle.std.specs.List.{AllByRecursion, list_any}
 use Rattle.std.specs.List.Sorted.{IsStrictlySortedBy}
-use Rattle.std.specs.Ordering.{nat_cmp, match_ordering}
+use Rattle.std.specs.Ordering.{nat_cmp}
 use Rattle.std.specs.Str.{bytes_eq}
-use Rattle.std.specs.declared.cmp.Ordering.{Ordering}
-use Rattle.std.specs.declared.cmp.Ordering.TheVariants.{Less, Equal, Greater}
+use Rattle.std.specs.declared.cmp.Ordering.TheVariants.{Less}
 use Rattle.xc_calc.specs.Effective.{effective_arcs}
 use Rattle.xc_calc.specs.Networks.{by_bytes, has_role, some_role, arcs_of, AreNetworks}
 use Rattle.xc_calc.specs.declared.arc.ListedArc.{ListedArc}
 use Rattle.xc_calc.specs.declared.arc.Network.{Network}
-use Rattle.xc_concepts.proofs.Noted.{or_along, any_step}
-use Rattle.xc_concepts.proofs.Repeats.{any_map}
+use Rattle.xc_model.proofs.Anys.{any_map, any_put_in, any_step}
 
 -- one of these texts is the role
 abbrev pub has_text : List (Bor (List ℕ)) → List ℕ → Bool
 has_text texts role = list_any (λ r. bytes_eq role r.now) texts
 
-or_turned : (a b : Bool) → (a || b) ≡ (b || a)
-or_turned true true = refl
-or_turned true false = refl
-or_turned false true = refl
-or_turned false false = refl
-
-or_twice : (a r : Bool) → (a || r) ≡ ((a || r) || a)
-or_twice true r = refl
-or_twice false true = refl
-or_twice false false = refl
-
 -- a role that is noted is one more
 pub role_noted : (ks : List (Bor (List ℕ))) (k : Bor (List ℕ)) (role : List ℕ) → has_text (insert_key by_bytes ks k) role ≡ (has_text ks role || bytes_eq role k.now)
-role_noted [] k role = or_turned (bytes_eq role k.now) false
-role_noted (x ∷ xs) k role = by (by_bytes k x) refl (role_noted xs k role)
-  where
-    by : (o : Ordering) → by_bytes k x ≡ o → has_text (insert_key by_bytes xs k) role ≡ (has_text xs role || bytes_eq role k.now)
-        → has_text (match_ordering o (k ∷ x ∷ xs) (x ∷ xs) (x ∷ insert_key by_bytes xs k)) role ≡ (has_text (x ∷ xs) role || bytes_eq role k.now)
-    by Less e rest = or_turned (bytes_eq role k.now) (has_text (x ∷ xs) role)
-    by Equal e rest =
-        let same : k.now ≡ x.now = slice_cmp-IsAntisymmetric nat_cmp-IsAntisymmetric k.now x.now e in
-        or_twice (bytes_eq role x.now) (has_text xs role) ∙ ap (λ t. has_text (x ∷ xs) role || bytes_eq role t) (sym same)
-    by Greater e rest = ap (λ b. bytes_eq role x.now || b) rest ∙ sym (or_along (bytes_eq role x.now) (has_text xs role) (bytes_eq role k.now))
+role_noted ks k role = any_put_in by_bytes (λ r. bytes_eq role r.now) (λ k x e. ap (bytes_eq role) (slice_cmp-IsAntisymmetric nat_cmp-IsAntisymmetric k.now x.now e)) ks k
 
 -- what is left has the next in front
 pub role_step : (arcs : List (Bor ListedArc)) (i : ℕ) (d : Bor ListedArc) → i < length arcs → d ≡ get_or arcs i d → (role : List ℕ)

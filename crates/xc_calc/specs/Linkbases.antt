@@ -4,7 +4,7 @@ use Rattle.std.specs.Option.{option_map_or}
 use Rattle.std.specs.Str.{bytes_eq}
 use Rattle.xc_calc.specs.declared.arc.ArcKind.{ArcKind}
 use Rattle.xc_calc.specs.declared.arc.ArcKind.TheVariants.{New, Old}
-use Rattle.xc_concepts.specs.Places.{is_place}
+use Rattle.xc_model.specs.Places.{is_place}
 use Rattle.xc_elements.specs.Trees.{parent_of, attribute_of}
 use Rattle.xc_elements.specs.declared.nodes.Node.{Node}
 use Rattle.xc_frac.specs.Trimmed.{trimmed}

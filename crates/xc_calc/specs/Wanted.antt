@@ -5,7 +5,7 @@ use Rattle.std.specs.List.Sorted.{IsStrictlySortedBy}
 use Rattle.std.specs.Ordering.{nat_cmp}
 use Rattle.xc_calc.specs.declared.arc.Arc.{Arc}
 use Rattle.xc_calc.specs.declared.arc.ListedArc.{ListedArc}
-use Rattle.xc_concepts.specs.Held.{is_among}
+use Rattle.xc_names.specs.NameSets.{is_among}
 
 -- the number is that of a concept at an end of the arc
 abbrev pub is_end : ℕ → Arc → Bool

@@ -4,9 +4,7 @@ pub mod Gathered
 pub mod Inside
 pub mod Keeping
 pub mod Least
-pub mod Ranges
-pub mod Repeats
 pub mod OneChain
-pub mod Noted
+pub mod Repeats
 pub mod Walks
 pub mod Within

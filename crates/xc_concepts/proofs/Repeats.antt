@@ -9,18 +9,15 @@ use Rattle.std.specs.Option.{option_map_or}
 use Rattle.std.specs.Str.{bytes_eq}
 use Rattle.xc_concepts.specs.Declarations.{declared_at, concepts_in}
 use Rattle.xc_concepts.specs.Lent.{is_text_of, is_concept_of}
-use Rattle.xc_concepts.specs.Places.{before, is_repeated}
+use Rattle.xc_model.specs.Places.{before, is_repeated}
 use Rattle.xc_concepts.specs.Rules.{is_same_name, repeats_concept}
 use Rattle.xc_concepts.specs.Schemas.{target, top_name}
 use Rattle.xc_concepts.specs.declared.schema.Concept.{Concept}
 use Rattle.xc_concepts.specs.declared.schema.Schema.{Schema}
 use Rattle.xc_elements.specs.declared.nodes.Node.{Node}
+use Rattle.xc_model.proofs.Anys.{any_map}
 use Rattle.xc_names.specs.Names.{name_of}
 use Rattle.xc_names.specs.declared.expanded.Expanded.{Expanded}
-
-pub any_map : {X Y : Type 0} (p : Y → Bool) (f : X → Y) (xs : List X) → list_any (λ x. p (f x)) xs ≡ list_any p (map f xs)
-any_map p f [] = refl
-any_map p f (x ∷ xs) = ap (λ b. p (f x) || b) (any_map p f xs)
 
 any_text : (texts : List (Bor (List ℕ))) (x : List ℕ) (earlier : List (List ℕ)) → map (λ t. t.now) texts ≡ earlier → list_any (λ t. bytes_eq x t.now) texts ≡ list_any (bytes_eq x) earlier
 any_text texts x earlier e = any_map (bytes_eq x) (λ t. t.now) texts ∙ ap (list_any (bytes_eq x)) e

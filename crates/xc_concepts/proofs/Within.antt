@@ -1,9 +1,8 @@
 -- Kinds as they compute, step by step.
-use Rattle.std.proofs.Common.{◌≡◌, ◌≢◌, ◌-◌, ◌+◌, ◌≤◌, ℕ, zero, suc, List, [], Option, Some, None, length, refl, sym, ap, subst, ◌∙◌, arith}
+use Rattle.std.proofs.Common.{◌≡◌, ◌≢◌, ◌-◌, ◌+◌, ℕ, zero, suc, List, [], Option, Some, None, length, refl, sym, ap, subst, ◌∙◌, arith}
 use Rattle.std.specs.Option.{option_map_or}
 use Rattle.xc_concepts.proofs.Walks.{Reaches, kind_of_end, kind_of_circle}
 use Rattle.xc_concepts.specs.Chains.{IsKindBy, base_name, kind_by_last, kind_within}
-use Rattle.xc_concepts.specs.declared.kind.Kind.{Kind}
 use Rattle.xc_concepts.specs.declared.kind.Kind.TheVariants.{Unknown}
 use Rattle.xc_concepts.specs.declared.schema.NamedType.{NamedType}
 use Rattle.xc_names.specs.declared.expanded.Expanded.{Expanded}

@@ -1,5 +1,5 @@
 -- Chains of type names, and the kinds of concepts by the last of a chain: XBRL 2.1, section 5.1.1.3.
-use Rattle.std.specs.Prelude.{◌≡◌, ◌==◌, ◌++◌, ℕ, zero, suc, length, Bool, List, [], ◌∷◌, codes, find, Option, Some, None, option_map, option_and_then, MatchOption, if◌then◌else◌}
+use Rattle.std.specs.Prelude.{◌≡◌, ◌==◌, ◌++◌, ℕ, zero, suc, length, Bool, List, [], ◌∷◌, codes, find, Option, Some, None, option_and_then, MatchOption, if◌then◌else◌}
 use Rattle.std.specs.List.{list_any}
 use Rattle.std.specs.Option.{option_map_or}
 use Rattle.std.specs.Str.{bytes_eq}

@@ -1,5 +1,5 @@
 -- The numbers that concepts have, and what ids and numbers say.
-use Rattle.std.specs.Prelude.{◌≡◌, ◌==◌, ◌&&◌, ◌++◌, ℕ, Bool, false, List, [], ◌∷◌, find, Option, Some, option_map, option_and_then, All}
+use Rattle.std.specs.Prelude.{◌≡◌, ◌&&◌, ◌++◌, ℕ, Bool, false, List, [], ◌∷◌, find, Option, Some, option_map, option_and_then, All}
 use Rattle.std.specs.List.{list_any}
 use Rattle.std.specs.List.Sorted.{IsStrictlySortedBy}
 use Rattle.std.specs.Option.{option_map_or}
@@ -10,6 +10,7 @@ use Rattle.xc_concepts.specs.Declarations.{concepts_in, IsSchemaOf}
 use Rattle.xc_concepts.specs.declared.schema.Concept.{Concept}
 use Rattle.xc_concepts.specs.declared.schema.Schema.{Schema}
 use Rattle.xc_elements.specs.declared.nodes.Node.{Node}
+use Rattle.xc_names.specs.NameSets.{is_among}
 use Rattle.xc_names.specs.Names.{number_of}
 use Rattle.xc_names.specs.declared.expanded.Expanded.{Expanded}
 
@@ -44,10 +45,6 @@ is_typed_as number c = has_number number c && c.declared.typed
 -- a typed concept has this number
 abbrev pub is_typed : List Schema → ℕ → Bool
 is_typed schemas number = list_any (is_typed_as number) (concepts_in schemas)
-
--- the number is one of these
-abbrev pub is_among : List ℕ → ℕ → Bool
-is_among numbers number = list_any (λ n. n == number) numbers
 
 -- the numbers of the typed concepts, each once and ascending
 pub record AreTyped (schemas : List Schema) (numbers : List ℕ) : Type 0 where

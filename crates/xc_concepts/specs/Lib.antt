@@ -3,7 +3,6 @@ pub mod Declarations
 pub mod Held
 pub mod Laws
 pub mod Lent
-pub mod Places
 pub mod References
 pub mod Rules
 pub mod Schemas

@@ -11,7 +11,7 @@ use crate::kind::{Kind, kind_by};
 use crate::reading::read_schema;
 use crate::rules::first_broken;
 use crate::schema::{Concept, Schema};
-use crate::typed::{is_typed, listed, typed_numbers};
+use crate::typed::{is_typed, typed_numbers};
 use std::alloc::Global;
 use std::marker::Model;
 use xc_elements::Tree;
@@ -130,8 +130,7 @@ impl Concepts {
     pub fn typed(&self) -> Result<Vec<NameId>, Memory>
         ensures { IfOk result (λ ids. AreTyped self.now (map (λ id. id.0) ids.items)) }
     {
-        let numbers = typed_numbers(self.alloc, self.schemas.as_slice())?;
-        listed(self.alloc, &numbers)
+        typed_numbers(self.alloc, self.schemas.as_slice())?.listed(self.alloc)
     }
 }
 

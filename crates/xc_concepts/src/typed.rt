@@ -1,15 +1,13 @@
 // The typed concepts of schemas.
-ghost use Rattle.std.specs.Prelude.{◌≡◌, ◌||◌, ℕ, map, IfOk, OnOk};
+ghost use Rattle.std.specs.Prelude.{◌≡◌, ◌||◌, ℕ, IfOk, OnOk};
 ghost use Rattle.std.specs.List.{list_any};
-ghost use Rattle.std.specs.List.Sorted.{IsStrictlySortedBy};
-ghost use Rattle.std.specs.Ordering.{nat_cmp};
-ghost use Rattle.xc_concepts.specs.Held.{is_typed, is_typed_as, is_among};
+ghost use Rattle.xc_concepts.specs.Held.{is_typed, is_typed_as};
+ghost use Rattle.xc_names.specs.NameSets.{is_among};
 
 use crate::schema::{Concept, Schema};
 use std::alloc::Global;
-use std::collections::BTreeSet;
 use xc_frac::Memory;
-use xc_names::NameId;
+use xc_names::{NameId, NameSet};
 
 /// Whether a typed concept has this number.
 pub(crate) fn is_typed(schemas: &[Schema], number: NameId) -> bool
@@ -33,18 +31,18 @@ fn has_typed(concepts: &[Concept], number: NameId) -> bool
 }
 
 /// The numbers of the typed concepts.
-pub(crate) fn typed_numbers(alloc: Global, schemas: &[Schema]) -> Result<BTreeSet<u64>, Memory>
-    ensures { IfOk result (λ numbers. (n : ℕ) → is_among numbers.keys n ≡ is_typed schemas.now n) }
+pub(crate) fn typed_numbers(alloc: Global, schemas: &[Schema]) -> Result<NameSet, Memory>
+    ensures { IfOk result (λ numbers. (n : ℕ) → is_among numbers n ≡ is_typed schemas.now n) }
 {
-    let mut numbers = BTreeSet::new(alloc);
+    let mut numbers = NameSet::new(alloc);
     for schema in schemas {
         note_all(&mut numbers, schema.concepts.as_slice())?;
     }
     Ok(numbers)
 }
 
-fn note_all(numbers: &mut BTreeSet<u64>, concepts: &[Concept]) -> Result<(), Memory>
-    ensures { OnOk result ((n : ℕ) → is_among numbers.new.keys n ≡ (is_among numbers.old.keys n || list_any (is_typed_as n) concepts.now)) }
+fn note_all(numbers: &mut NameSet, concepts: &[Concept]) -> Result<(), Memory>
+    ensures { OnOk result ((n : ℕ) → is_among numbers.new n ≡ (is_among numbers.old n || list_any (is_typed_as n) concepts.now)) }
 {
     for concept in concepts {
         note(numbers, concept)?;
@@ -52,26 +50,11 @@ fn note_all(numbers: &mut BTreeSet<u64>, concepts: &[Concept]) -> Result<(), Mem
     Ok(())
 }
 
-fn note(numbers: &mut BTreeSet<u64>, concept: &Concept) -> Result<(), Memory>
-    ensures { OnOk result ((n : ℕ) → is_among numbers.new.keys n ≡ (is_among numbers.old.keys n || is_typed_as n concept.now)) }
+fn note(numbers: &mut NameSet, concept: &Concept) -> Result<(), Memory>
+    ensures { OnOk result ((n : ℕ) → is_among numbers.new n ≡ (is_among numbers.old n || is_typed_as n concept.now)) }
 {
     if concept.declared.typed {
-        match numbers.insert(concept.number.0) {
-            Ok(_) => {}
-            Err(_) => return Err(Memory),
-        }
+        numbers.insert(concept.number)?;
     }
     Ok(())
-}
-
-/// The numbers in their order, as those of names.
-pub(crate) fn listed(alloc: Global, numbers: &BTreeSet<u64>) -> Result<Vec<NameId>, Memory>
-    ensures same { IfOk result (λ ids. map (λ id. id.0) ids.items ≡ numbers.now.keys) }
-    ensures ascending { IfOk result (λ ids. IsStrictlySortedBy nat_cmp numbers.now.keys) }
-{
-    let mut list = Vec::new(alloc);
-    for number in numbers {
-        list.push(NameId(*number))?;
-    }
-    Ok(list)
 }

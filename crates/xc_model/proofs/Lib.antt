@@ -1,9 +1,12 @@
+pub mod Anys
 pub mod Arithmetic
 pub mod Gauss
 pub mod Integers
 pub mod LeastCommon
+pub mod ListsOfImages
 pub mod Lowest
 pub mod Numbers
 pub mod Over
-pub mod Quotients
 pub mod Positions
+pub mod Quotients
+pub mod Ranges

@@ -1,5 +1,6 @@
 pub mod Bound
 pub mod Found
+pub mod NameSets
 pub mod Numbered
 pub mod Splits
 pub mod TextMaps

@@ -4,6 +4,7 @@
 mod expanded;
 mod expansion;
 pub mod laws;
+mod name_set;
 mod names;
 mod numbers;
 mod plain_names;
@@ -14,6 +15,7 @@ mod wanted;
 
 pub use expanded::{Expanded, NameId};
 pub use expansion::{NameFault, expand};
+pub use name_set::NameSet;
 pub use names::Names;
 pub use plain_names::{around_colon, is_plain_name, split};
 pub use prefixes::Prefixes;

@@ -1,5 +1,6 @@
 use crate::{
-    Expanded, NameFault, NameId, Names, Prefixes, around_colon, expand, is_plain_name, split,
+    Expanded, NameFault, NameId, NameSet, Names, Prefixes, around_colon, expand, is_plain_name,
+    split,
 };
 use std::test::Fail;
 use xc_frac::Memory;
@@ -111,5 +112,21 @@ fn prefixes_name_spaces(rt: HostRuntime) -> Result<(), Fail> {
         assert_eq!(rt; expand(&mut names, &prefixes, text), number);
     }
     assert_eq!(rt; NameFault::from(Memory), NameFault::Memory);
+    Ok(())
+}
+
+// Numbers that are put in more than once are listed once, ascending.
+#[test]
+fn numbers_are_listed(rt: HostRuntime) -> Result<(), Fail> {
+    let alloc = rt.alloc();
+    let mut set = NameSet::new(alloc);
+    assert_eq!(rt; set.listed(alloc)?.as_slice(), [].as_slice());
+    for number in [7, 3, 7, 0, 3] {
+        set.insert(NameId(number))?;
+    }
+    assert_eq!(rt;
+        set.listed(alloc)?.as_slice(),
+        [NameId(0), NameId(3), NameId(7)].as_slice()
+    );
     Ok(())
 }

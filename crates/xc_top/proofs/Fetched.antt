@@ -1,7 +1,6 @@
 -- Words of which the first are fetched.
-use Rattle.std.proofs.Common.{◌≡◌, ℕ, List, [], ◌∷◌, ◌++◌, ◌⊎◌, inl, inr, Option, Some, None, sym, ap, subst, ◌∙◌, append_assoc, append-nil}
+use Rattle.std.proofs.Common.{◌≡◌, ℕ, List, [], ◌∷◌, ◌++◌, Some, None, sym, ap, subst, ◌∙◌, append_assoc, append-nil}
 use Rattle.std.specs.Option.{option_or}
-use Rattle.xc_concepts.specs.Places.{first_given}
 use Rattle.xc_io.specs.Shelf.{Files}
 use Rattle.xc_top.specs.Documents.{unfetched, first_unfetched, IsContentOf, IsDocumentOf, AreDocumentsOf}
 use Rattle.xc_top.specs.declared.documents.Document.{Document}

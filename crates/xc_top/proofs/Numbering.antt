@@ -5,7 +5,7 @@ use Rattle.std.specs.FinMap.{get}
 use Rattle.std.specs.List.{zip}
 use Rattle.std.specs.Option.{option_or}
 use Rattle.xc_calc.specs.declared.arc.Network.{Network}
-use Rattle.xc_concepts.specs.Places.{first_given}
+use Rattle.xc_model.specs.Places.{first_given}
 use Rattle.xc_names.specs.Names.{number_of, KeepsNumbers}
 use Rattle.xc_names.specs.PlainNames.{split}
 use Rattle.xc_names.specs.Prefixes.{Bindings}
@@ -14,7 +14,7 @@ use Rattle.xc_names.specs.declared.expanded.NameId.{NameId}
 use Rattle.xc_names.specs.declared.wanted.Wanted.{Wanted}
 use Rattle.xc_report.specs.Opened.{Opened}
 use Rattle.xc_top.specs.Judged.{Asked, IsFactsAnswer}
-use Rattle.xc_top.specs.Sums.{sum_asked, named_words, unbound, number_in, sum_network, AreNodesOf, AreSumNumbers, IsNumberedAnswer}
+use Rattle.xc_top.specs.Sums.{sum_asked, named_words, unbound, number_in, sum_network, AreNodesOf, IsNumberedAnswer}
 use Rattle.xc_top.specs.Words.{SumWords, name_of}
 use Rattle.xc_top.specs.declared.status.Answer.{Answer}
 

@@ -1,9 +1,9 @@
 -- The schemas and linkbases among documents, one document after another.
-use Rattle.std.proofs.Common.{◌≡◌, ℕ, ◌+◌, ◌<◌, List, [], ◌∷◌, ◌++◌, length, drop, get_or, Option, Some, None, filter_map, flat_map, option_and_then, option_to_list, refl, sym, ap, ◌∙◌, append-nil}
+use Rattle.std.proofs.Common.{◌≡◌, ℕ, ◌+◌, ◌<◌, List, ◌∷◌, ◌++◌, length, drop, get_or, Option, Some, None, filter_map, flat_map, option_and_then, option_to_list, refl, sym, ap, ◌∙◌, append-nil}
 use Rattle.std.proofs.lemmas.List.{drop_more}
 use Rattle.std.specs.List.{cons_option}
 use Rattle.std.specs.Option.{option_or}
-use Rattle.xc_concepts.specs.Places.{first_given}
+use Rattle.xc_model.specs.Places.{first_given}
 use Rattle.xc_top.specs.declared.documents.Document.{Document}
 
 -- what is left begins with the next document

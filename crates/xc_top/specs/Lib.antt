@@ -6,7 +6,6 @@ pub mod Documents
 pub mod Judged
 pub mod Laws
 pub mod Named
-pub mod Placed
 pub mod Run
 pub mod Status
 pub mod Sums

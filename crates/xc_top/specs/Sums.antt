@@ -7,8 +7,8 @@ use Rattle.std.specs.Option.{option_map_or}
 use Rattle.std.specs.Ordering.{nat_cmp}
 use Rattle.xc_calc.specs.declared.arc.Arc.{Arc}
 use Rattle.xc_calc.specs.declared.arc.Network.{Network}
-use Rattle.xc_concepts.specs.Held.{is_among}
-use Rattle.xc_concepts.specs.Places.{first_given}
+use Rattle.xc_names.specs.NameSets.{is_among}
+use Rattle.xc_model.specs.Places.{first_given}
 use Rattle.xc_decimal.specs.Numbers.{shortest_if}
 use Rattle.xc_decimal.specs.Shortest.{Shortest}
 use Rattle.xc_io.specs.Shelf.{Files}

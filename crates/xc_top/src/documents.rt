@@ -1,7 +1,7 @@
 // The files of a run, and the documents in them.
 ghost use Rattle.std.specs.Prelude.{◌≡◌, ◌≤◌, ◌<◌, ◌^◌, ◌∷◌, [], ℕ, List, Some, None, true, length, map, IfOk, IfSome, OnOk};
 ghost use Rattle.xc_io.specs.Faults.{Rose};
-ghost use Rattle.xc_concepts.specs.Places.{first_given};
+ghost use Rattle.xc_model.specs.Places.{first_given};
 ghost use Rattle.xc_top.specs.Answers.{IfStopped, unread};
 ghost use Rattle.xc_top.specs.Documents.{limit, unfetched, first_unfetched, IsDocumentOf, AreDocumentsOf, IsContentOf, root_refusal, document_refusal, first_unread};
 ghost use Rattle.xc_top.specs.Run.{IsReadFaultOf, IsEnding, IsSettled};

@@ -1,10 +1,8 @@
 // What `sum` answers.
-ghost use Rattle.std.specs.Prelude.{◌≡◌, ◌==◌, ◌||◌, ◌∷◌, [], ℕ, Some, None, Ok, true, false, map, IfOk, OnOk};
+ghost use Rattle.std.specs.Prelude.{◌≡◌, ◌∷◌, [], ℕ, Some, None, Ok, true, false, map, IfOk, OnOk};
 ghost use Rattle.std.specs.List.{zip};
-ghost use Rattle.std.specs.List.Sorted.{IsStrictlySortedBy};
-ghost use Rattle.std.specs.Ordering.{nat_cmp};
-ghost use Rattle.xc_concepts.specs.Held.{is_among};
-ghost use Rattle.xc_concepts.specs.Places.{first_given};
+ghost use Rattle.xc_names.specs.NameSets.{is_among};
+ghost use Rattle.xc_model.specs.Places.{first_given};
 ghost use Rattle.xc_names.specs.Names.{KeepsNumbers};
 ghost use Rattle.xc_report.specs.Drafts.{draft_view};
 ghost use Rattle.xc_report.specs.Opened.{opened};
@@ -20,11 +18,10 @@ use crate::refusals::{refused_at, report_refusal};
 use crate::status::{Answer, Stop};
 use crate::words::{Sum, is_negative, name_of};
 use std::alloc::Global;
-use std::collections::BTreeSet;
 use xc_calc::{Arc, Network};
 use xc_decimal::{Decimal, read_decimal};
 use xc_frac::{Items, Memory, Text};
-use xc_names::{NameFault, NameId, Names, Prefixes, Wanted, expand};
+use xc_names::{NameFault, NameId, NameSet, Names, Prefixes, Wanted, expand};
 use xc_report::{Draft, open_report};
 
 /// What is answered of the report's bytes.
@@ -213,40 +210,20 @@ fn wanted_of(alloc: Global, numbers: &Numbers) -> Result<Wanted, Memory>
 {
     let set = set_of(alloc, numbers.total, &numbers.terms)?;
     Ok(Wanted {
-        nodes: Items::of(listed(alloc, &set)?),
+        nodes: Items::of(set.listed(alloc)?),
         typed: Items::of(Vec::new(alloc)),
     })
 }
 
-fn set_of(alloc: Global, total: NameId, terms: &[NameId]) -> Result<BTreeSet<u64>, Memory>
-    ensures { IfOk result (λ set. (n : ℕ) → is_among set.keys n ≡ is_number_of (total ∷ terms.now) n) }
+fn set_of(alloc: Global, total: NameId, terms: &[NameId]) -> Result<NameSet, Memory>
+    ensures { IfOk result (λ set. (n : ℕ) → is_among set n ≡ is_number_of (total ∷ terms.now) n) }
 {
-    let mut set = BTreeSet::new(alloc);
-    note(&mut set, total)?;
+    let mut set = NameSet::new(alloc);
+    set.insert(total)?;
     for term in terms {
-        note(&mut set, *term)?;
+        set.insert(*term)?;
     }
     Ok(set)
-}
-
-// Notes the number of a name.
-fn note(set: &mut BTreeSet<u64>, id: NameId) -> Result<(), Memory>
-    ensures { OnOk result ((n : ℕ) → is_among set.new.keys n ≡ (is_among set.old.keys n || (id.0 == n))) }
-{
-    set.insert(id.0)?;
-    Ok(())
-}
-
-// The numbers in their order, as those of names.
-fn listed(alloc: Global, set: &BTreeSet<u64>) -> Result<Vec<NameId>, Memory>
-    ensures same { IfOk result (λ ids. map (λ id. id.0) ids.items ≡ set.now.keys) }
-    ensures ascending { IfOk result (λ ids. IsStrictlySortedBy nat_cmp set.now.keys) }
-{
-    let mut list = Vec::new(alloc);
-    for number in set {
-        list.push(NameId(*number))?;
-    }
-    Ok(list)
 }
 
 fn question_of<'a>(sum: &Sum<'a>) -> Question<'a>

@@ -6,7 +6,8 @@ use Rattle.xc_bind.specs.declared.types.Term.{Term}
 use Rattle.xc_interval.specs.declared.range.Range.{Range}
 use Rattle.xc_interval.specs.declared.range.Range.TheVariants as range
 use Rattle.xc_points.specs.declared.types.Point.{Point}
-use Rattle.xc_verdict.specs.Ranges.{IsInside, point_of, range_at}
+use Rattle.xc_bind.specs.Placed.{IsInside}
+use Rattle.xc_verdict.specs.Ranges.{point_of, range_at}
 use Rattle.xc_verdict.specs.Sums.{IsWideRange, IsEmptyRange, IsMetRange, IsKeptRange, AllAreMet, SomeIsWide, SomeIsEmpty}
 
 pub met_range : (r : Range) → IsKeptRange r → ¬ IsWideRange r → ¬ IsEmptyRange r → IsMetRange r

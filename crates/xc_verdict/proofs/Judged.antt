@@ -12,7 +12,8 @@ use Rattle.xc_model.specs.Fraction.{Fraction}
 use Rattle.xc_model.specs.Ratio.{Ratio}
 use Rattle.xc_points.specs.Kept.{AreKept, IsRangeOf, ends_of}
 use Rattle.xc_points.specs.declared.types.Point.{Point}
-use Rattle.xc_verdict.specs.Ranges.{IsInside, named, point_of, range_if, range_at, EachHas}
+use Rattle.xc_bind.specs.Placed.{IsInside}
+use Rattle.xc_verdict.specs.Ranges.{named, point_of, range_if, range_at, EachHas}
 use Rattle.xc_verdict.specs.Sums.{IsKeptRange, Has, Holds, IsSumOf, IsShared}
 
 -- the points that a binding names are there

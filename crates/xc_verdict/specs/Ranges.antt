@@ -1,5 +1,5 @@
 -- The points that a binding names, and their ranges.
-use Rattle.std.specs.Prelude.{ℕ, ◌<◌, List, [], ◌∷◌, ◌⊎◌, map, length, Option, Some, None, slice_get}
+use Rattle.std.specs.Prelude.{ℕ, List, [], ◌∷◌, ◌⊎◌, map, Option, Some, None, slice_get}
 use Rattle.xc_bind.specs.declared.types.Binding.{Binding}
 use Rattle.xc_bind.specs.declared.types.Term.{Term}
 use Rattle.xc_interval.specs.declared.range.Range.{Range}
@@ -13,10 +13,6 @@ point_of term = term.point
 -- the numbers of the points of a total and its terms
 abbrev pub named : Binding → List ℕ
 named binding = binding.total ∷ map point_of binding.terms
-
--- the term's point is one of these
-abbrev pub IsInside : List Point → Term → Type 0
-IsInside points term = term.point < length points
 
 -- one of these numbers has the property
 abbrev pub SomeHas : (ℕ → Type 0) → List ℕ → Type 0

@@ -1,7 +1,8 @@
 // The ranges of the points that a binding names.
 ghost use Rattle.std.specs.Prelude.{◌≡◌, ◌<◌, ◌↔◌, ℕ, length, map, All, IsTrue, IfSome, IfNone};
 ghost use Rattle.xc_interval.specs.declared.range.Range.TheVariants as range;
-ghost use Rattle.xc_verdict.specs.Ranges.{named, point_of, range_at, IsInside};
+ghost use Rattle.xc_bind.specs.Placed.{IsInside};
+ghost use Rattle.xc_verdict.specs.Ranges.{named, point_of, range_at};
 ghost use Rattle.xc_verdict.specs.Sums.{IsWideRange, IsEmptyRange, IsMetRange, IsKeptRange, IsSomeInterval, SomeIsWide, SomeIsEmpty, AllAreMet, IsFound};
 
 use xc_bind::{Binding, Term, Verdict};

@@ -1,7 +1,7 @@
 // The least common denominator of the ends of a binding's points.
 ghost use Rattle.std.specs.Prelude.{◌≡◌, ◌<◌, ◌≤◌, ◌^◌, ◌↔◌, ℕ, length, All, IfSome, IfNone};
 ghost use Prim.Native.Nat.{◌∣◌};
-ghost use Rattle.xc_verdict.specs.Ranges.{IsInside};
+ghost use Rattle.xc_bind.specs.Placed.{IsInside};
 ghost use Rattle.xc_verdict.specs.Scales.{IsMultipleOf, IsNoneBelow};
 ghost use Rattle.xc_verdict.specs.Widths.{IsOnScale, AreOnScale, IsLeastScale};
 

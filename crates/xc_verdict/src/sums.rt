@@ -3,7 +3,8 @@ ghost use Rattle.std.specs.Prelude.{◌≡◌, ◌≢◌, ◌+◌, ◌<◌, ◌�
 ghost use Rattle.xc_model.specs.Fraction.{Fraction, SameNumber, whole};
 ghost use Rattle.xc_interval.specs.Arithmetic.{IsSumOfNumbers};
 ghost use Rattle.xc_interval.specs.Intervals.{numbers_of, HasNumber};
-ghost use Rattle.xc_verdict.specs.Ranges.{IsInside, point_of};
+ghost use Rattle.xc_bind.specs.Placed.{IsInside};
+ghost use Rattle.xc_verdict.specs.Ranges.{point_of};
 ghost use Rattle.xc_verdict.specs.Sums.{IsSomeInterval, AllAreMet, IsWeighted, IsSumOf, Holds, AreCounted, HasRoomFor, HasRoomTimes, IsCountedTimes};
 ghost use Rattle.xc_verdict.specs.Widths.{IsNarrowBinding};
 

@@ -1,6 +1,6 @@
 // Whether a binding is narrow.
 ghost use Rattle.std.specs.Prelude.{◌≡◌, ◌<◌, ◌≤◌, ◌^◌, ◌↔◌, length, All, IsTrue};
-ghost use Rattle.xc_verdict.specs.Ranges.{IsInside};
+ghost use Rattle.xc_bind.specs.Placed.{IsInside};
 ghost use Rattle.xc_verdict.specs.Saturated.{saturated};
 ghost use Rattle.xc_verdict.specs.Widths.{size_of, greatest, most_places, weight_size, terms_size, width, IsNarrowBinding};
 

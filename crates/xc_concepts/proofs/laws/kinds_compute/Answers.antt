@@ -1,13 +1,11 @@
-use Rattle.std.proofs.Common.{◌≡◌, ℕ, List, Option, Some, None, MatchOption, refl, length, zero-add}
+use Rattle.std.proofs.Common.{◌≡◌, List, Option, Some, None, MatchOption, refl, length, zero-add}
 use Rattle.std.specs.Option.{option_map_or}
 use Rattle.xc_concepts.proofs.Within.{computes}
-use Rattle.xc_concepts.specs.Chains.{IsKind, IsKindBy, kind_from, kind_of, concept_numbered}
+use Rattle.xc_concepts.specs.Chains.{IsKindBy, kind_from, concept_numbered}
 use Rattle.xc_concepts.specs.Declarations.{types_in}
-use Rattle.xc_concepts.specs.declared.kind.Kind.{Kind}
 use Rattle.xc_concepts.specs.declared.kind.Kind.TheVariants.{Other, Unknown}
 use Rattle.xc_concepts.specs.declared.schema.Concept.{Concept}
 use Rattle.xc_concepts.specs.declared.schema.NamedType.{NamedType}
-use Rattle.xc_concepts.specs.declared.schema.Schema.{Schema}
 use Rattle.xc_names.specs.declared.expanded.Expanded.{Expanded}
 use Rattle.xc_concepts.proofs.laws.kinds_compute.Goals as goal
 

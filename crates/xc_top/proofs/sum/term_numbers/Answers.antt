@@ -3,7 +3,7 @@ use Rattle.std.proofs.lemmas.Grind.{common_steps}
 use Rattle.std.proofs.lemmas.List.{drop_more}
 use Rattle.xc_top.specs.Sums.{unbound, number_in}
 use Rattle.xc_top.specs.Words.{texts, name_of}
-use Rattle.xc_top.proofs.Numbering.{kept_twice, number_kept, number_of_term, some_number, with_name, numbers_more, numbers_all, bound_more}
+use Rattle.xc_top.proofs.Numbering.{kept_twice, number_kept, number_of_term, some_number, numbers_more, numbers_all, bound_more}
 use Rattle.xc_top.proofs.sum.term_numbers.Goals as goal
 
 pub loop-term-preserved : goal.loop-term-preserved

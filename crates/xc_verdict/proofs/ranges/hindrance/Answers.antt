@@ -1,6 +1,7 @@
 use Rattle.std.proofs.Common.{map, sym, subst}
 use Rattle.std.specs.Prelude.{All}
-use Rattle.xc_verdict.specs.Ranges.{IsInside, point_of}
+use Rattle.xc_bind.specs.Placed.{IsInside}
+use Rattle.xc_verdict.specs.Ranges.{point_of}
 use Rattle.xc_verdict.specs.Sums.{IsWideRange, IsEmptyRange, IsMetRange, IsKeptRange, AllAreMet, SomeIsWide, SomeIsEmpty}
 use Rattle.xc_verdict.proofs.AllMet.{met_range, met_terms, not_so}
 use Rattle.xc_verdict.proofs.ranges.hindrance.Goals as goal

@@ -1,23 +1,14 @@
--- The bindings of networks name points and networks, and there are no more points than facts.
-use Rattle.std.proofs.Common.{◌≡◌, ◌==◌, ℕ, zero, suc, cond, ◌+◌, ◌*◌, ◌^◌, ◌<◌, ◌≤◌, List, [], ◌∷◌, ◌++◌, length, map, filter_map, flat_map, filter, Bool, true, false, not, nat_lt, Option, Some, None, IfSome, All, option_map, refl, sym, ap, subst, ◌∙◌, arith}
-use Rattle.std.proofs.lemmas.Bool.Decides.{nat_tests}
-use Rattle.std.proofs.lemmas.List.{length-map}
+-- The bindings of networks name networks and points.
+use Rattle.std.proofs.Common.{◌≡◌, ℕ, suc, cond, ◌+◌, ◌<◌, ◌≤◌, List, [], ◌∷◌, length, filter_map, flat_map, Bool, true, false, Option, Some, None, IfSome, All, option_map, subst, arith}
 use Rattle.std.proofs.lemmas.List.Elements.{All-nil, All-cons, All-append, All-weaker}
-use Rattle.std.specs.List.{cons_option, enumerate_from, position_from, range_with_len}
+use Rattle.std.specs.List.{cons_option, enumerate_from, position_from}
 use Rattle.xc_bind.specs.Bindings.{is_point_of, number_of, arcs_from, term_with, term_of, terms_of, with_terms, binding_of, bindings_in, bindings_of}
+use Rattle.xc_bind.specs.Placed.{IsOfNetworks, IsInside, IsPlaced}
 use Rattle.xc_bind.specs.declared.types.Binding.{Binding}
 use Rattle.xc_bind.specs.declared.types.Term.{Term}
 use Rattle.xc_calc.specs.declared.arc.Arc.{Arc}
 use Rattle.xc_calc.specs.declared.arc.Network.{Network}
-use Rattle.xc_interval.specs.declared.mode.Mode.{Mode}
-use Rattle.xc_lines.specs.Findings.{NameTotals, NameNetworks}
-use Rattle.xc_points.specs.Gathered.{ArePoints, group_of, group_with, groups, first_of_point, first_facts, numbers}
-use Rattle.xc_points.specs.Kept.{Gathered}
 use Rattle.xc_points.specs.declared.types.Point.{Point}
-use Rattle.xc_report.specs.declared.reports.Fact.{Fact}
-use Rattle.xc_top.specs.Judged.{are_too_many}
-use Rattle.xc_top.specs.Placed.{IsPlaced}
-use Rattle.xc_verdict.specs.Ranges.{IsInside}
 
 -- ---- lists
 
@@ -58,10 +49,9 @@ found_first test xs =
 
 module _ (networks : List Network) (points : List Point) where
   -- the binding names one of the networks, and points
-  pub record IsKnown (binding : Binding) : Type 0 where
-    pub network : binding.network < length networks
-    pub total : binding.total < length points
-    pub terms : All (IsInside points) binding.terms
+  record IsKnown (binding : Binding) : Type 0 where
+    network : IsOfNetworks networks binding
+    placed : IsPlaced points binding
 
   term_inside : (weight : _) (o : Option ℕ) → IfSome o (λ n. n < length points) → IfSome (option_map (term_with weight) o) (IsInside points)
   term_inside weight None h = tt
@@ -72,63 +62,15 @@ module _ (networks : List Network) (points : List Point) where
 
   known : (network total : ℕ) (terms : List Term) → network < length networks → total < length points → All (IsInside points) terms → IfSome (with_terms network total terms) IsKnown
   known network total [] n t inside = tt
-  known network total (term ∷ terms) n t inside = record { network = n; total = t; terms = inside }
+  known network total (term ∷ terms) n t inside = record { network = n; placed = record { total = t; terms = inside } }
 
-  pub all_known : All IsKnown (bindings_of networks points)
+  all_known : All IsKnown (bindings_of networks points)
   all_known = all_flat IsKnown (bindings_in points) (length networks) (λ n network below.
       all_numbered IsKnown (binding_of points n network.arcs) (length points) (λ k point within.
       known n k (terms_of points network.arcs point) below within (terms_inside network.arcs point)) 0 points (omega arith)) 0 networks (omega arith)
 
   pub all_placed : All (IsPlaced points) (bindings_of networks points)
-  all_placed = All-weaker IsKnown (IsPlaced points) (λ b k. record { total = k.total; terms = k.terms }) (bindings_of networks points) all_known
+  all_placed = All-weaker IsKnown (IsPlaced points) (λ b k. k.placed) (bindings_of networks points) all_known
 
-  pub totals_named : NameTotals points (bindings_of networks points)
-  totals_named = All-weaker IsKnown (λ b. b.total < length points) (λ b k. k.total) (bindings_of networks points) all_known
-
-  pub networks_named : NameNetworks networks (bindings_of networks points)
-  networks_named = All-weaker IsKnown (λ b. b.network < length networks) (λ b k. k.network) (bindings_of networks points) all_known
-
--- ---- how many
-
-fewer : {X Y : Type 0} (f : X → Option Y) (xs : List X) → length (filter_map f xs) ≤ length xs
-fewer f [] = omega arith
-fewer f (x ∷ xs) = by (f x) (fewer f xs)
-  where
-    by : (o : Option _) → length (filter_map f xs) ≤ length xs → length (cons_option o (filter_map f xs)) ≤ suc (length xs)
-    by None h = omega arith
-    by (Some y) h = omega arith
-
-range_length : (k n : ℕ) → length (range_with_len k n) ≡ n
-range_length k zero = refl
-range_length k (suc n) = ap suc (range_length (k + 1) n)
-
--- there are no more points than facts
-pub few_points : (mode : Mode) (facts : List Fact) (gathered : Gathered) → ArePoints mode facts gathered → length gathered.points ≤ length facts
-few_points mode facts gathered are =
-    let same : length gathered.points ≡ length (first_facts facts) =
-    sym (length-map gathered.points group_of) ∙ ap (λ (gs : List _). length gs) are.groups_are ∙ length-map (first_facts facts) (group_with facts) in
-    let less : length (first_facts facts) ≤ length (numbers facts) = fewer (first_of_point facts) (numbers facts) in
-    let all : length (numbers facts) ≡ length facts = range_length 0 (length facts) in
-    omega arith
-
--- where facts are not too many, their number fits
-few : (n : ℕ) → not (nat_lt n (2 ^ 31)) ≡ false → n < 2 ^ 31
-few n h = grind (arith, nat_tests)
-
-pub few_facts : (facts networks : ℕ) → are_too_many facts networks ≡ false → facts < 2 ^ 31
-few_facts facts networks h =
-    let all : facts * (networks + 1) < 2 ^ 31 = few (facts * (networks + 1)) h in
-    omega arith
-
--- and the number of networks times that of points
-pub few_pairs : (facts networks points : ℕ) → are_too_many facts networks ≡ false → points ≤ facts → networks * points < 2 ^ 31
-few_pairs facts networks points h less =
-    let all : facts * (networks + 1) < 2 ^ 31 = few (facts * (networks + 1)) h in
-    let product : networks * points ≤ networks * facts = mul_below networks points facts less in
-    omega arith
-  where
-    mul_below : (n p f : ℕ) → p ≤ f → n * p ≤ n * f
-    mul_below zero p f h = omega arith
-    mul_below (suc n) p f h =
-        let rest : n * p ≤ n * f = mul_below n p f h in
-        omega arith
+  pub all_of_networks : All (IsOfNetworks networks) (bindings_of networks points)
+  all_of_networks = All-weaker IsKnown (IsOfNetworks networks) (λ b k. k.network) (bindings_of networks points) all_known

@@ -1,6 +1,6 @@
 use Rattle.std.proofs.Common.{◌≡◌, ◌++◌, map}
-use Rattle.xc_top.proofs.sum.listed.Given as goal
+use Rattle.xc_names.proofs.name_set.NameSet.listed.Given as goal
 
 -- the numbers so far and those that are left are all
 abbrev pub invariant-loop-number : goal.invariant-loop-number
-invariant-loop-number l = map (λ id. id.0) l.list.items ++ l.number-iterator ≡ l.set.keys
+invariant-loop-number l = map (λ id. id.0) l.list.items ++ l.number-iterator ≡ l.self

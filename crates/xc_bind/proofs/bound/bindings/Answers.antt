@@ -1,0 +1,15 @@
+use Rattle.std.proofs.Common.{◌≡◌, All, arith, subst, sym}
+use Rattle.std.proofs.lemmas.Grind.{common_steps}
+use Rattle.xc_bind.proofs.Placing.{all_placed, all_of_networks}
+use Rattle.xc_bind.specs.Bindings.{bindings_of}
+use Rattle.xc_bind.specs.Placed.{IsOfNetworks, IsPlaced}
+use Rattle.xc_bind.proofs.bound.bindings.Goals as goal
+
+exact : (c : goal.After-drop-index-inside-4) → c.loop-at.list.items ≡ bindings_of c.args.networks.now c.args.points.now.points
+exact c = grind (arith, common_steps)
+
+pub returns-clause-networks : goal.returns-clause-networks
+returns-clause-networks c = subst (λ bs. All (IsOfNetworks c.args.networks.now) bs) (sym (exact c)) (all_of_networks c.args.networks.now c.args.points.now.points)
+
+pub returns-clause-points : goal.returns-clause-points
+returns-clause-points c = subst (λ bs. All (IsPlaced c.args.points.now.points) bs) (sym (exact c)) (all_placed c.args.networks.now c.args.points.now.points)

@@ -6,6 +6,7 @@ pub mod Mapped
 pub mod Meeting
 pub mod Multiples
 pub mod Numbers
+pub mod OneInterval
 pub mod Passing
 pub mod Reals
 pub mod Sides

@@ -1,9 +1,10 @@
 -- What follows from the definitions for all intervals.
-use Rattle.std.specs.Prelude.{◌≢◌, pos, ◌↔◌}
+use Rattle.std.specs.Prelude.{◌≡◌, ◌≢◌, pos, ◌↔◌}
 use Rattle.xc_model.specs.Fraction.{Fraction}
+use Rattle.xc_model.specs.Ratio.{Ratio}
 use Rattle.xc_frac.specs.Parts.{real_alone}
 use Rattle.xc_interval.specs.Arithmetic.{IsSumInterval, IsSumFrom, IsScaled, IsMultiple}
-use Rattle.xc_interval.specs.Intervals.{LiesIn, Crosses, between, HasPair, HasNumber}
+use Rattle.xc_interval.specs.Intervals.{LiesIn, Crosses, between, frac_parts, numbers_of, pairs_of, HasPair, HasNumber, HasNoPair}
 use Rattle.xc_interval.specs.declared.interval.Interval.{Interval}
 
 module _ {A : Type 0} (Less Same : A → A → Type 0) where
@@ -23,3 +24,8 @@ HasMultiples = (k : Fraction) (i m : Interval Fraction) → k.num ≢ pos 0 → 
 -- among pairs without a tiny part, an interval of numbers has the numbers that lie in it
 abbrev pub HasRealsAlone : Type 0
 HasRealsAlone = (i : Interval Fraction) (x : Fraction) → HasPair (between (λ y. real_alone y) i) (real_alone x) ↔ HasNumber i x
+
+-- an interval in which something lies is told by its numbers
+abbrev pub HasOneInterval : Type 0
+HasOneInterval = (i j : Interval Ratio) → ¬ HasNoPair (pairs_of frac_parts i) → ¬ HasNoPair (pairs_of frac_parts j)
+    → ((x : Fraction) → HasNumber (numbers_of i) x ↔ HasNumber (numbers_of j) x) → i ≡ j

@@ -2,7 +2,9 @@
 //! where its proof needs the clauses.
 ghost use Rattle.xc_model.specs.Fraction.{SameNumber, IsBelow, sum_of};
 ghost use Rattle.xc_frac.specs.Parts.{IsLess, SameParts, sum_parts};
-ghost use Rattle.xc_interval.specs.Laws.{EndsTell, HasSums, HasMultiples, HasRealsAlone};
+ghost use Rattle.xc_interval.specs.Laws.{EndsTell, HasSums, HasMultiples, HasRealsAlone, HasOneInterval};
+
+use xc_frac::laws::lowest_terms;
 
 /// Whether something lies in an interval is told by its ends.
 pub fn ends_tell()
@@ -26,3 +28,10 @@ pub fn multiples()
 pub fn reals()
     ensures { HasRealsAlone }
 {}
+
+/// An interval in which something lies is told by its numbers: two that have the same ones are equal.
+pub fn one_interval()
+    ensures { HasOneInterval }
+{
+    lowest_terms();
+}

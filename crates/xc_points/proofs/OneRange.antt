@@ -1,7 +1,7 @@
 -- A point has one range.
-use Rattle.std.proofs.Common.{List, refl, inl, inr}
+use Rattle.std.proofs.Common.{◌≡◌, List, refl, ap, inl, inr}
 use Rattle.xc_interval.specs.Intervals.{Crosses, frac_parts, numbers_of, pairs_of, HasNoPair}
-use Rattle.xc_interval.specs.Laws.{EndsTell}
+use Rattle.xc_interval.specs.Laws.{EndsTell, HasOneInterval}
 use Rattle.xc_interval.specs.declared.ends.End.{End}
 use Rattle.xc_interval.specs.declared.ends.End.TheVariants.{Closed, Open}
 use Rattle.xc_interval.specs.declared.interval.Interval.{Interval}
@@ -33,16 +33,20 @@ met_some mode facts point i tell met empty =
     let x : Fraction = some.0 in
     empty x.num x.den x.positive ((met.numbers x.num x.den x.positive).1 some.1)
 
-pub one_range : EndsTell IsBelow SameNumber → HasOneRange
-one_range tell mode facts point (range.Meets i) (range.Meets j) r s = λ x. (
+-- intervals that are met have the same numbers, and so are one
+one_met : (mode : Mode) (facts : List Fact) (point : Point) (i j : Interval Ratio) → HasOneInterval → IsMet mode facts point i → IsMet mode facts point j → i ≡ j
+one_met mode facts point i j one r s = one i j r.some s.some (λ x. (
   (λ in_i. (s.numbers x.num x.den x.positive).0 ((r.numbers x.num x.den x.positive).1 in_i)),
   (λ in_j. (r.numbers x.num x.den x.positive).0 ((s.numbers x.num x.den x.positive).1 in_j)),
-)
-one_range tell mode facts point (range.Meets i) range.Empty r s = met_some mode facts point i tell r s.1
-one_range tell mode facts point (range.Meets i) range.Wide r s = r.narrow s
-one_range tell mode facts point range.Empty (range.Meets j) r s = met_some mode facts point j tell s r.1
-one_range tell mode facts point range.Empty range.Empty r s = tt
-one_range tell mode facts point range.Empty range.Wide r s = r.0 s
-one_range tell mode facts point range.Wide (range.Meets j) r s = s.narrow r
-one_range tell mode facts point range.Wide range.Empty r s = s.0 r
-one_range tell mode facts point range.Wide range.Wide r s = tt
+))
+
+pub one_range : EndsTell IsBelow SameNumber → HasOneInterval → HasOneRange
+one_range tell one mode facts point (range.Meets i) (range.Meets j) r s = ap range.Meets (one_met mode facts point i j one r s)
+one_range tell one mode facts point (range.Meets i) range.Empty r s = absurd (met_some mode facts point i tell r s.1)
+one_range tell one mode facts point (range.Meets i) range.Wide r s = absurd (r.narrow s)
+one_range tell one mode facts point range.Empty (range.Meets j) r s = absurd (met_some mode facts point j tell s r.1)
+one_range tell one mode facts point range.Empty range.Empty r s = refl
+one_range tell one mode facts point range.Empty range.Wide r s = absurd (r.0 s)
+one_range tell one mode facts point range.Wide (range.Meets j) r s = absurd (s.narrow r)
+one_range tell one mode facts point range.Wide range.Empty r s = absurd (s.0 r)
+one_range tell one mode facts point range.Wide range.Wide r s = refl

@@ -1,10 +1,7 @@
 -- What follows from the definitions for all points.
-use Rattle.std.specs.Prelude.{◌≡◌, ℕ, List, Some, slice_get, ◌↔◌}
-use Rattle.xc_interval.specs.Intervals.{numbers_of, HasNumber}
+use Rattle.std.specs.Prelude.{◌≡◌, ℕ, List, Some, slice_get}
 use Rattle.xc_interval.specs.declared.mode.Mode.{Mode}
 use Rattle.xc_interval.specs.declared.range.Range.{Range}
-use Rattle.xc_interval.specs.declared.range.Range.TheVariants as range
-use Rattle.xc_model.specs.Fraction.{Fraction}
 use Rattle.xc_points.specs.Gathered.{ArePoints, IsRange}
 use Rattle.xc_points.specs.Kept.{Gathered, HasFact}
 use Rattle.xc_points.specs.declared.types.Point.{Point}
@@ -30,13 +27,6 @@ abbrev pub AreDistinct : Type 0
 AreDistinct = (mode : Mode) (facts : List Fact) (gathered : Gathered) → ArePoints mode facts gathered → (j k : ℕ) (p q : Point) → slice_get gathered.points j ≡ Some p → slice_get gathered.points k ≡ Some q
     → p.concept ≡ q.concept → p.key ≡ q.key → j ≡ k
 
--- two ranges are of one kind, and have the same numbers
-abbrev pub IsSameRange : Range → Range → Type 0
-IsSameRange (range.Meets i) (range.Meets j) = (x : Fraction) → HasNumber (numbers_of i) x ↔ HasNumber (numbers_of j) x
-IsSameRange range.Empty range.Empty = Unit {0}
-IsSameRange range.Wide range.Wide = Unit {0}
-IsSameRange r s = ⊥
-
 -- a point has one range
 abbrev pub HasOneRange : Type 0
-HasOneRange = (mode : Mode) (facts : List Fact) (point : Point) (r s : Range) → IsRange mode facts point r → IsRange mode facts point s → IsSameRange r s
+HasOneRange = (mode : Mode) (facts : List Fact) (point : Point) (r s : Range) → IsRange mode facts point r → IsRange mode facts point s → r ≡ s

@@ -2,7 +2,7 @@
 //! the clauses.
 ghost use Rattle.xc_points.specs.Laws.{HasPoint, HasOwnFacts, AreDistinct, HasOneRange};
 
-use xc_interval::laws::ends_tell;
+use xc_interval::laws::{ends_tell, one_interval};
 
 /// The points are the distinct pairs of a concept and a key that the facts have: each fact is one of a point with its
 /// concept and its key, a point has no other facts, and no two points have the same ones.
@@ -12,9 +12,10 @@ pub fn points_are_pairs()
     ensures distinct { AreDistinct }
 {}
 
-/// The range of a point is decided by the mode and the facts: its kind, and of an interval its numbers.
+/// The range of a point is decided by the mode and the facts.
 pub fn one_range()
     ensures { HasOneRange }
 {
     ends_tell();
+    one_interval();
 }

@@ -1,22 +1,15 @@
 // Attributes of which two have one expanded name.
 ghost use Rattle.std.specs.Prelude.{◌≡◌, IfOk, map};
-ghost use Rattle.xc_elements.specs.Doubles.{has_equal, lent_parts, name_parts};
+ghost use Rattle.xc_elements.specs.Doubles.{name_parts};
 ghost use Rattle.xc_elements.specs.Namespaces.{has_double};
+ghost use Rattle.xc_frac.specs.Doubles.{lent_texts};
 
 use crate::nodes::{Attribute, value_among};
 use std::alloc::Global;
-use std::collections::BTreeSet;
-use xc_frac::Memory;
+use xc_frac::{Memory, TextPair, has_equal_pairs};
 
 /// Up to so many attributes are compared in pairs, which takes no memory.
 const FEW: usize = 16;
-
-/// An expanded name, lent by its attribute.
-#[derive(Clone, Copy, PartialEq, Eq, PartialOrd, Ord)]
-struct LentName<'a> {
-    space: &'a str,
-    local: &'a str,
-}
 
 /// Whether two of the attributes have one expanded name. However many there are, no two of many are compared one by one.
 pub(crate) fn has_double(alloc: Global, attributes: &[Attribute]) -> Result<bool, Memory>
@@ -26,7 +19,7 @@ pub(crate) fn has_double(alloc: Global, attributes: &[Attribute]) -> Result<bool
         return Ok(has_double_of_few(attributes));
     }
     let names = names_of(alloc, attributes)?;
-    has_equal(alloc, names.as_slice())
+    has_equal_pairs(alloc, names.as_slice())
 }
 
 fn has_double_of_few(attributes: &[Attribute]) -> bool
@@ -42,28 +35,15 @@ fn has_double_of_few(attributes: &[Attribute]) -> bool
     false
 }
 
-fn names_of(alloc: Global, attributes: &[Attribute]) -> Result<Vec<LentName<'_>>, Memory>
-    ensures { IfOk result (λ names. map lent_parts names.items ≡ map name_parts attributes.now) }
+fn names_of(alloc: Global, attributes: &[Attribute]) -> Result<Vec<TextPair<'_>>, Memory>
+    ensures { IfOk result (λ names. map lent_texts names.items ≡ map name_parts attributes.now) }
 {
     let mut names = Vec::new(alloc);
     for attribute in attributes {
-        names.push(LentName {
-            space: attribute.space.as_str(),
-            local: attribute.local.as_str(),
+        names.push(TextPair {
+            first: attribute.space.as_str(),
+            second: attribute.local.as_str(),
         })?;
     }
     Ok(names)
-}
-
-/// Whether two of the keys are equal.
-fn has_equal<K: Ord + Copy>(alloc: Global, keys: &[K]) -> Result<bool, Memory>
-    ensures { IfOk result (λ answer. answer ≡ has_equal K.cmp keys.now) }
-{
-    let mut seen = BTreeSet::new(alloc);
-    for key in keys {
-        if !seen.insert(*key)? {
-            return Ok(true);
-        }
-    }
-    Ok(false)
 }

@@ -1,5 +1,6 @@
 pub mod Characters
 pub mod Cleared
+pub mod Doubles
 pub mod Firsts
 pub mod Laws
 pub mod Lending

@@ -1,9 +1,10 @@
 //! Exact 128-bit fractions and numbers with an infinitely small part; and what serves all crates above: least
-//! common multiples, the types by which contracts see texts and lists, a list with an index, and the characters of XML 1.0.
+//! common multiples, the types by which contracts see texts and lists, a list with an index, doubles among pairs of texts, and the characters of XML 1.0.
 #![tactic(auto)]
 
 pub mod characters;
 mod delta;
+mod doubles;
 mod exact;
 mod firsts;
 mod frac;
@@ -21,6 +22,7 @@ mod white_space;
 mod wide;
 
 pub use delta::Delta;
+pub use doubles::{TextPair, has_equal_pairs};
 pub use exact::{Exact, Scalar};
 pub use firsts::Firsts;
 pub use frac::Frac;

@@ -1,4 +1,4 @@
--- Ordering the dimensions of a fact keeps the value of each.
+-- A key that is put in order has at each dimension the value that was stated last.
 use Rattle.std.proofs.Common.{◌≡◌, [], ◌∷◌, Bool, true, false, Option, Some, None, fold, cond, refl, sym, ap, subst, ◌∙◌}
 use Rattle.std.proofs.lemmas.Map.Entries.{lookup_tail}
 use Rattle.std.specs.BTreeMap.{insert_entry}
@@ -43,33 +43,56 @@ put_value d value [] q = refl
 put_value d value (e ∷ es) q = put_at d value e es q (put_value d value es q) (dimension_cmp d e.0) refl
 
 -- the first of two, where there is one
-abbrev first_some : Option DimValue → Option DimValue → Option DimValue
+abbrev pub first_some : Option DimValue → Option DimValue → Option DimValue
 first_some None other = other
 first_some (Some value) other = Some value
 
-none_behind : (d : Dimension) (ps : Key) → AllByRecursion (λ y. is_same_dimension d y ≡ false) (keys_of ps) → value_at ps d ≡ None
-none_behind d [] all = refl
-none_behind d (p ∷ ps) all = lookup_tail (is_same_dimension d) p ps all.0 ∙ none_behind d ps all.1
+-- the value of a part, where it is one of this dimension
+abbrev pub value_if : Bool → DimValue → Option DimValue
+value_if same value = cond same (Some value) None
 
-next : (p : Dimension × DimValue) (ps : Key) (before : Option DimValue) (q : Dimension) → AllByRecursion (λ y. is_same_dimension p.0 y ≡ false) (keys_of ps)
-    → (same : Bool) → is_same_dimension q p.0 ≡ same → first_some (value_at ps q) (cond same (Some p.1) before) ≡ first_some (cond same (Some p.1) (value_at ps q)) before
-next p ps before q others true h =
-    let is : q ≡ p.0 = (dimension_decides q p.0).0 h in
-    ap (λ o. first_some o (Some p.1)) (subst (λ r. value_at ps r ≡ None) (sym is) (none_behind p.0 ps others))
-next p ps before q others false h = refl
+-- the value that is stated last of a dimension
+abbrev pub last_at : Key → Dimension → Option DimValue
+last_at [] q = None
+last_at (p ∷ ps) q = first_some (last_at ps q) (value_if (is_same_dimension q p.0) p.1)
 
-fold_values : (ps before : Key) (q : Dimension) → IsDistinct is_same_dimension (keys_of ps)
-    → value_at (fold (λ (ordered : Key) (part : Dimension × DimValue). insert_entry dimension_cmp ordered part.0 part.1) before ps) q ≡ first_some (value_at ps q) (value_at before q)
-unfolding IsDistinct
-fold_values [] before q distinct = refl
-fold_values (p ∷ ps) before q distinct =
-    fold_values ps (insert_entry dimension_cmp before p.0 p.1) q distinct.1
-    ∙ ap (first_some (value_at ps q)) (put_value p.0 p.1 before q)
-    ∙ next p ps (value_at before q) q distinct.0 _ refl
+one_before : (last before : Option DimValue) (same : Bool) (value : DimValue) → first_some last (cond same (Some value) before) ≡ first_some (first_some last (value_if same value)) before
+one_before None before true value = refl
+one_before None before false value = refl
+one_before (Some v) before same value = refl
+
+fold_lasts : (ps before : Key) (q : Dimension)
+    → value_at (fold (λ (ordered : Key) (part : Dimension × DimValue). insert_entry dimension_cmp ordered part.0 part.1) before ps) q ≡ first_some (last_at ps q) (value_at before q)
+fold_lasts [] before q = refl
+fold_lasts (p ∷ ps) before q =
+    fold_lasts ps (insert_entry dimension_cmp before p.0 p.1) q
+    ∙ ap (first_some (last_at ps q)) (put_value p.0 p.1 before q)
+    ∙ one_before (last_at ps q) (value_at before q) (is_same_dimension q p.0) p.1
 
 first_alone : (o : Option DimValue) → first_some o None ≡ o
 first_alone None = refl
 first_alone (Some value) = refl
 
+pub in_order_lasts : (parts : Key) (q : Dimension) → value_at (in_order parts) q ≡ last_at parts q
+in_order_lasts parts q = fold_lasts parts [] q ∙ first_alone (last_at parts q)
+
+-- ---- which is the only one where no dimension stands twice
+
+none_behind : (d : Dimension) (ps : Key) → AllByRecursion (λ y. is_same_dimension d y ≡ false) (keys_of ps) → value_at ps d ≡ None
+none_behind d [] all = refl
+none_behind d (p ∷ ps) all = lookup_tail (is_same_dimension d) p ps all.0 ∙ none_behind d ps all.1
+
+only : (p : Dimension × DimValue) (ps : Key) (q : Dimension) → AllByRecursion (λ y. is_same_dimension p.0 y ≡ false) (keys_of ps)
+    → (same : Bool) → is_same_dimension q p.0 ≡ same → first_some (value_at ps q) (value_if same p.1) ≡ cond same (Some p.1) (value_at ps q)
+only p ps q others true h =
+    let is : q ≡ p.0 = (dimension_decides q p.0).0 h in
+    ap (λ o. first_some o (Some p.1)) (subst (λ r. value_at ps r ≡ None) (sym is) (none_behind p.0 ps others))
+only p ps q others false h = first_alone (value_at ps q)
+
+last_is_only : (ps : Key) (q : Dimension) → IsDistinct is_same_dimension (keys_of ps) → last_at ps q ≡ value_at ps q
+unfolding IsDistinct
+last_is_only [] q distinct = refl
+last_is_only (p ∷ ps) q distinct = ap (λ last. first_some last (value_if (is_same_dimension q p.0) p.1)) (last_is_only ps q distinct.1) ∙ only p ps q distinct.0 _ refl
+
 pub order_keeps_values : (parts : Key) → IsDistinct is_same_dimension (keys_of parts) → HaveSameValues (in_order parts) parts
-order_keeps_values parts distinct = λ q. fold_values parts [] q distinct ∙ first_alone (value_at parts q)
+order_keeps_values parts distinct = λ q. in_order_lasts parts q ∙ last_is_only parts q distinct

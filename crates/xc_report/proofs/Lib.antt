@@ -1,13 +1,19 @@
+mod DoubleLaws
 mod Examples
 pub mod Json
 mod Kept
 mod KeyLaws
 mod KeyOrder
+mod KeyPatterns
 mod KeyPlaces
 mod KeyValues
 mod KeysDecide
 mod Listed
 mod Pieces
+mod RenamedFacts
+mod RenamedReports
 mod ReportFacts
+mod SaidKeys
+mod SaidMeasures
 mod SameKeys
 mod StatedIds

@@ -1,4 +1,5 @@
 pub mod Dimensions
+pub mod Doubles
 pub mod Drafts
 pub mod Each
 pub mod Forms
@@ -9,6 +10,7 @@ pub mod Opened
 pub mod Periods
 pub mod Prefixed
 pub mod Reads
+pub mod Renamed
 pub mod Reports
 pub mod Stated
 pub mod StatedFacts

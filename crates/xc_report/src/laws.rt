@@ -1,7 +1,9 @@
 //! What the definitions of this crate say, in the words of reports.
 //!
-//! Each function has an empty body: its contract is the law.
-ghost use Rattle.xc_report.specs.Laws.{KeysTellValues, ComparisonTellsValues, OneNumberAKey, OrderKeepsValues};
+//! The functions do nothing: the contract of each is the law, and one may call a law below it.
+ghost use Rattle.xc_report.specs.Laws.{KeysTellValues, ComparisonTellsValues, OneNumberAKey, OrderKeepsValues, KeysAreOfNames, StatedIsRenamed, ReportIsRenamed};
+
+use xc_names::laws::numbers_tell_names;
 
 /// Keys are equal exactly where they have the same dimensions with equal values.
 pub fn keys_tell_values()
@@ -22,3 +24,19 @@ pub fn one_number_a_key()
 pub fn order_keeps_values()
     ensures { OrderKeepsValues }
 {}
+
+/// Whether two keys are equal is told by what the facts state: it does not depend on the numbers that names have.
+pub fn keys_are_of_names()
+    ensures { KeysAreOfNames }
+{
+    numbers_tell_names();
+}
+
+/// Where names have other numbers, facts state the same and have the same faults, and a report has the same facts: the
+/// numbers of their concepts are exchanged, and those of their keys stay.
+pub fn numbers_are_free()
+    ensures stated { StatedIsRenamed }
+    ensures facts { ReportIsRenamed }
+{
+    keys_are_of_names();
+}

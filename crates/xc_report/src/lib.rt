@@ -6,6 +6,7 @@
 #![tactic(auto)]
 
 mod dimensions;
+mod doubles;
 mod drafts;
 mod forms;
 mod key_lists;

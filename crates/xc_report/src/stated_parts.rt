@@ -1,13 +1,13 @@
 // The dimensions that a fact states, by expanded names.
 ghost use Rattle.std.specs.Prelude.{◌≡◌, IfOk, Option};
-ghost use Rattle.std.specs.List.{list_any};
 ghost use Rattle.serde_json.specs.View.{view, members_view};
 ghost use Rattle.xc_report.specs.Prefixed.{expanded};
 ghost use Rattle.xc_report.specs.Reads.{Reads, GivesParts, known_view};
-ghost use Rattle.xc_report.specs.Stated.{part, entity_value, period_value, text_value, member_value, taxonomy_value, taxonomy_part, unit_part, part_of, is_same_name, has_twice, parts_of, kept};
+ghost use Rattle.xc_report.specs.Stated.{part, entity_value, period_value, text_value, member_value, taxonomy_value, taxonomy_part, unit_part, part_of, parts_of, kept};
 ghost use Rattle.xc_report.specs.declared.stated.StatedValue.{StatedValue};
 ghost use Rattle.xc_report.specs.declared.stated.StatedValue.TheVariants as stated;
 
+use crate::doubles::has_twice;
 use crate::known::Known;
 use crate::periods::normal_period;
 use crate::prefixed::{expanded, expanded_loosely};
@@ -28,7 +28,7 @@ pub fn parts_of(
     ensures { Reads result (parts_of (known_view known.now) (members_view members.now.entries)) }
 {
     let parts = given_parts(alloc, known, members)?;
-    if has_twice(parts.as_slice()) {
+    if has_twice(alloc, parts.as_slice())? {
         return Err(Refusal::Bad);
     }
     Ok(Items::of(parts))
@@ -48,39 +48,6 @@ fn given_parts(
         }
     }
     Ok(parts)
-}
-
-// Whether a dimension of a taxonomy stands twice. Every later part is looked at for each.
-fn has_twice(parts: &[StatedPart]) -> bool
-    ensures { result ≡ has_twice parts.now }
-{
-    let mut left = parts;
-    while let [first, rest @ ..] = left {
-        if has_name(rest, &first.dimension) {
-            return true;
-        }
-        left = rest;
-    }
-    false
-}
-
-fn has_name(parts: &[StatedPart], name: &DimensionName) -> bool
-    ensures { result ≡ list_any (λ other. is_same_name name.now other.dimension) parts.now }
-{
-    parts
-        .iter()
-        .any(|other| is_same_name(name, &other.dimension))
-}
-
-fn is_same_name(name: &DimensionName, other: &DimensionName) -> bool
-    ensures { result ≡ is_same_name name.now other.now }
-{
-    match (name, other) {
-        (DimensionName::Taxonomy(name), DimensionName::Taxonomy(other)) => {
-            other.is(name.space.as_str(), name.local.as_str())
-        }
-        _ => false,
-    }
 }
 
 // The part that a member of `dimensions` gives: none for the concept, and for the unit `pure`.

@@ -231,6 +231,35 @@ fn dimensions_make_keys(rt: HostRuntime) -> Result<(), Fail> {
     Ok(())
 }
 
+// What a report of a fact with twenty dimensions of taxonomies says, the last of this name.
+fn twenty_told(alloc: Global, last: &str) -> Result<String, ReportFault> {
+    let mut dimensions = String::new(alloc);
+    for n in 1u64..20 {
+        dimensions.push_str(format!(in alloc; ",'eg:E{n}':'1'")?.as_str())?;
+    }
+    dimensions.push_str(format!(in alloc; ",'{last}':'1'")?.as_str())?;
+    fact_told(alloc, dimensions.as_str(), ",'value':'5'")
+}
+
+#[test]
+fn one_of_many_dimensions_stands_twice(rt: HostRuntime) -> Result<(), Fail> {
+    let alloc = rt.alloc();
+    for (last, want) in [
+        (
+            "h:E20",
+            "a 1#0=5/0~99, [ 3:<1> 4:<1> 5:<1> 6:<1> 7:<1> 8:<1> 9:<1> 10:<1> 11:<1> 12:<1> 13:<1> 14:<1> 15:<1> 16:<1> 17:<1> 18:<1> 19:<1> 20:<1> 21:<1> 22:<1>]",
+        ),
+        // The first under another prefix.
+        ("h:E1", "name a"),
+    ] {
+        match twenty_told(alloc, last) {
+            Ok(answer) => assert_eq!(rt; answer.as_str(), want, "{last}"),
+            Err(_) => assert!(rt; false, "{last}"),
+        }
+    }
+    Ok(())
+}
+
 #[test]
 fn values_and_decimals_are_read(rt: HostRuntime) -> Result<(), Fail> {
     let alloc = rt.alloc();

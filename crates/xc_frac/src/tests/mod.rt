@@ -150,3 +150,20 @@ fn common_multiples(rt: HostRuntime) -> Result<(), Fail> {
     }
     Ok(())
 }
+
+#[test]
+fn equal_pairs(rt: HostRuntime) -> Result<(), Fail> {
+    let alloc = rt.alloc();
+    let pair = |first, second| TextPair { first, second };
+    let apart = [
+        pair("a", "b"),
+        pair("ab", ""),
+        pair("", "ab"),
+        pair("b", "a"),
+    ];
+    assert_eq!(rt; has_equal_pairs(alloc, &apart), Ok(false));
+    let twice = [pair("a", "b"), pair("b", "a"), pair("a", "b")];
+    assert_eq!(rt; has_equal_pairs(alloc, &twice), Ok(true));
+    assert_eq!(rt; has_equal_pairs(alloc, &apart[..0]), Ok(false));
+    Ok(())
+}

@@ -1,9 +1,9 @@
 use Rattle.std.proofs.Common.{◌≡◌, drop}
 use Rattle.std.specs.BTreeSet.{contains}
 use Rattle.std.specs.Ordering.{is_eq}
-use Rattle.xc_elements.specs.Doubles.{has_equal}
-use Rattle.xc_elements.proofs.DoubleLaws.{has_same_or_seen}
-use Rattle.xc_elements.proofs.doubles.has_equal.Given as goal
+use Rattle.xc_frac.specs.Doubles.{has_equal}
+use Rattle.xc_frac.proofs.EqualPairs.{has_same_or_seen}
+use Rattle.xc_frac.proofs.doubles.has_equal.Given as goal
 
 -- two are equal, or one that is left has been seen
 abbrev pub invariant-loop-key : goal.invariant-loop-key

@@ -1,6 +1,6 @@
 use Rattle.std.proofs.Common.{◌≡◌, length}
 use Rattle.xc_report.specs.Stated.{has_twice}
-use Rattle.xc_report.proofs.stated_parts.has_twice.Given as goal
+use Rattle.xc_report.proofs.doubles.has_twice_of_few.Given as goal
 
 -- none of those so far stands twice
 abbrev pub invariant-loop-left : goal.invariant-loop-left

@@ -4,8 +4,8 @@ use Rattle.std.specs.BTreeSet.{contains}
 use Rattle.std.specs.List.{list_any}
 use Rattle.std.specs.Ordering.{is_eq}
 use Rattle.std.proofs.lemmas.List.{drop_more}
-use Rattle.xc_elements.proofs.DoubleLaws.{has_same_or_seen, none_seen, seen_more, not_seen}
-use Rattle.xc_elements.proofs.doubles.has_equal.Goals as goal
+use Rattle.xc_frac.proofs.EqualPairs.{has_same_or_seen, none_seen, seen_more, not_seen}
+use Rattle.xc_frac.proofs.doubles.has_equal.Goals as goal
 
 pub loop-key-init : goal.loop-key-init
 loop-key-init g c = none_seen (λ x y. is_eq (g.K.Ord.cmp x y)) (contains g.K.Ord.cmp c.new-seen.result) c.args.keys.now (λ q. ap (λ ks. list_any (is_at (g.K.Ord.cmp q)) ks) c.new-seen.ensures.empty)

@@ -1,16 +1,40 @@
--- Words and files have one answer, as far as documents have faults.
-use Rattle.std.proofs.Common.{◌≡◌, ◌≢◌, ◌⊎◌, ℕ, List, [], ◌∷◌, Option, Some, None, inl, inr, refl, sym, ap, subst, ◌∙◌}
+-- Words and files have one answer.
+use Rattle.std.proofs.Common.{◌≡◌, ℕ, List, [], ◌∷◌, map, Option, Some, None, Result, Ok, Err, inl, inr, refl, sym, ap, subst, ◌∙◌}
+use Rattle.std.specs.List.{zip}
+use Rattle.xc_calc.specs.Laws as calc
+use Rattle.xc_calc.specs.declared.arc.Network.{Network}
+use Rattle.xc_model.specs.Places.{first_given}
 use Rattle.xc_elements.specs.DocumentTrees.{OneTree, TreeOrFault, OneFirstFault}
 use Rattle.xc_io.specs.Shelf.{Files}
-use Rattle.xc_top.specs.Answer.{IsAnswer, IsCommandAnswer}
-use Rattle.xc_top.specs.Checks.{IsDocumentsAnswer, IsCheckAnswer}
-use Rattle.xc_top.specs.Documents.{first_unfetched, first_unread, IsContentOf, IsDocumentOf, AreDocumentsOf}
-use Rattle.xc_top.specs.Laws.{DocumentsAreOne, HasUnread, IsUnread, HasEarlyFault}
-use Rattle.xc_top.specs.Words.{CommandWords, CheckWords, SumOf, CheckOf, file_words}
+use Rattle.xc_names.specs.declared.expanded.Expanded.{Expanded}
+use Rattle.xc_names.specs.declared.wanted.Wanted.{Wanted}
+use Rattle.xc_points.specs.Laws.{HasOneRange}
+use Rattle.xc_report.specs.Laws.{StatedIsRenamed, ReportIsRenamed}
+use Rattle.xc_report.specs.Opened.{Opened, opened}
+use Rattle.xc_report.specs.StatedFacts.{stated_facts}
+use Rattle.xc_report.specs.Wanted.{known_of}
+use Rattle.xc_report.specs.declared.reports.ReportFault.{ReportFault}
+use Rattle.xc_report.specs.declared.stated.StatedFact.{StatedFact}
+use Rattle.xc_report.specs.Renamed.{renamed_stated, renamed_fact, renamed_read}
+use Rattle.xc_top.proofs.Renaming.{IsRenamed, renamed_network}
+use Rattle.xc_top.proofs.RenamedLines.{one_counted}
+use Rattle.xc_top.proofs.RenamedSums.{one_sum}
+use Rattle.xc_top.proofs.RenamedTaxonomies.{one_taxonomy, one_refusal, refused_or_read}
+use Rattle.xc_top.specs.Answer.{IsHeldAnswer, IsAnswer, IsCommandAnswer}
+use Rattle.xc_top.specs.Answers.{report_refusal}
+use Rattle.xc_top.specs.Checks.{check_asked, IsOpenedAnswer, IsDocumentsAnswer, IsCheckAnswer}
+use Rattle.xc_top.specs.Documents.{first_unfetched, IsContentOf, IsDocumentOf, AreDocumentsOf}
+use Rattle.xc_top.specs.Judged.{Asked, IsCounted, IsStated, IsRead, IsFactsAnswer}
+use Rattle.xc_top.specs.Laws.{DocumentsAreOne}
+use Rattle.xc_top.specs.Sums.{sum_asked, sum_network, named_words, unbound, IsNumberedAnswer, IsReportAnswer, IsSumAnswer}
+use Rattle.xc_top.specs.Words.{CommandWords, SumWords, CheckWords, SumOf, CheckOf, file_words}
 use Rattle.xc_top.specs.declared.documents.Content.{Content}
 use Rattle.xc_top.specs.declared.documents.Content.TheVariants.{Elements, Broken}
 use Rattle.xc_top.specs.declared.documents.Document.{Document}
 use Rattle.xc_top.specs.declared.status.Answer.{Answer}
+use Rattle.xc_verdict.specs.Laws.{HasOneVerdict}
+
+-- ---- documents
 
 module _ (tree : OneTree) (fault : OneFirstFault) (either : TreeOrFault) where
   one_content : (bytes : List ℕ) (one other : Content) → IsContentOf bytes one → IsContentOf bytes other → one ≡ other
@@ -35,36 +59,110 @@ module _ (tree : OneTree) (fault : OneFirstFault) (either : TreeOrFault) where
   one_documents files (word ∷ words) (d ∷ ds) [] h k = absurd k
   one_documents files (word ∷ words) (d ∷ ds) (e ∷ es) h k = ap (λ x. x ∷ ds) (one_document files word d e h.0 k.0) ∙ ap (λ xs. e ∷ xs) (one_documents files words ds es h.1 k.1)
 
+-- ---- options
+
 some_none : (a : Answer) (o : Option Answer) → o ≡ Some a → o ≡ None → ⊥
 some_none a o e n = let wrong : Some a ≡ None = sym e ∙ n in cc
 
 same_some : (a b : Answer) (o : Option Answer) → o ≡ Some a → o ≡ Some b → a ≡ b
 same_some a b o e f = let same : Some a ≡ Some b = sym e ∙ f in cc
 
--- where a document is of neither kind, its refusal is the answer
-unread_is : (check : CheckWords) (bytes : List ℕ) (documents : List Document) (answer : Answer) → first_unread documents ≢ None → IsDocumentsAnswer check bytes documents answer → first_unread documents ≡ Some answer
-unread_is check bytes documents answer unread (inl (inl e)) = e
-unread_is check bytes documents answer unread (inl (inr (inl s))) = absurd (unread s.read)
-unread_is check bytes documents answer unread (inl (inr (inr l))) = absurd (unread l.read)
-unread_is check bytes documents answer unread (inr t) = absurd (unread t.taxonomy.read)
+same_bytes : (a b : List ℕ) (o : Option (List ℕ)) → o ≡ Some a → o ≡ Some b → a ≡ b
+same_bytes a b o e f = let same : Some a ≡ Some b = sym e ∙ f in cc
 
-module _ (documents : DocumentsAreOne) where
-  one_check : (check : CheckWords) (files : Files) (one other : Answer) → HasUnread files check.documents → IsCheckAnswer check files one → IsCheckAnswer check files other → one ≡ other
-  one_check check files one other unread h k =
-      let first : h.documents ≡ unread.documents = documents files check.documents h.documents unread.documents h.read unread.read in
-      let second : k.documents ≡ unread.documents = documents files check.documents k.documents unread.documents k.read unread.read in
-      let left : first_unread unread.documents ≡ Some one = unread_is check h.bytes unread.documents one unread.unread (subst (λ ds. IsDocumentsAnswer check h.bytes ds one) first h.answered) in
-      let right : first_unread unread.documents ≡ Some other = unread_is check k.bytes unread.documents other unread.unread (subst (λ ds. IsDocumentsAnswer check k.bytes ds other) second k.answered) in
-      same_some one other (first_unread unread.documents) left right
+-- ---- answers
 
-  one_command : (command : CommandWords) (files : Files) (one other : Answer) → (first_unfetched files (file_words command) ≢ None) ⊎ IsUnread command files → IsCommandAnswer command files one → IsCommandAnswer command files other → one ≡ other
-  one_command command files one other early (inl h) (inl k) = same_some one other (first_unfetched files (file_words command)) h k
-  one_command command files one other early (inl h) (inr k) = absurd (some_none one (first_unfetched files (file_words command)) h k.fetched)
-  one_command command files one other early (inr h) (inl k) = absurd (some_none other (first_unfetched files (file_words command)) k h.fetched)
-  one_command command files one other (inl unfetched) (inr h) (inr k) = absurd (unfetched h.fetched)
-  one_command (SumOf sum) files one other (inr unread) (inr h) (inr k) = absurd unread
-  one_command (CheckOf check) files one other (inr unread) (inr h) (inr k) = one_check check files one other unread h.answered k.answered
+-- the laws of the crates below
+pub record Below : Type 0 where
+  pub networks : calc.HasOneAnswer
+  pub stated : StatedIsRenamed
+  pub facts : ReportIsRenamed
+  pub range : HasOneRange
+  pub verdict : HasOneVerdict
 
-  pub one_answer : (words : Option CommandWords) (files : Files) (one other : Answer) → HasEarlyFault words files → IsAnswer words files one → IsAnswer words files other → one ≡ other
-  one_answer None files one other early h k = h ∙ sym k
-  one_answer (Some command) files one other early h k = one_command command files one other early h k
+module _ (below : Below) (documents_are_one : DocumentsAreOne) where
+  module _ (asked : Asked) (names other_names : List Expanded) (networks other_networks : List Network) (wanted other_wanted : Wanted)
+      (renamed : IsRenamed names networks wanted other_names other_networks other_wanted) where
+    -- facts that are stated alike have one answer
+    one_stated : (facts : List StatedFact) (one other : Answer)
+        → IsStated asked names networks facts one → IsStated asked other_names other_networks (map (renamed_stated renamed.by) facts) other → one ≡ other
+    one_stated facts one other h k =
+        let same : k.report.facts ≡ map (renamed_fact renamed.by) h.report.facts =
+        below.facts renamed.by h.after k.after facts h.report k.report h.numbered k.numbered in
+        one_counted below.range below.verdict renamed.by renamed.injective asked networks h.report.facts one other h.counted
+        (subst (λ fs. IsCounted asked (map (renamed_network renamed.by) networks) fs other) same
+        (subst (λ ns. IsCounted asked ns k.report.facts other) renamed.networks_are k.counted))
+
+    one_read : (stated : Result (List StatedFact) ReportFault) (one other : Answer)
+        → IsRead asked names networks stated one → IsRead asked other_names other_networks (renamed_read renamed.by stated) other → one ≡ other
+    one_read (Ok facts) one other h k = one_stated facts one other h k
+    one_read (Err fault) one other h k = same_some one other (report_refusal asked.word fault) h k
+
+    one_facts : (report : Opened) (one other : Answer) → IsFactsAnswer asked names networks wanted report one → IsFactsAnswer asked other_names other_networks other_wanted report other → one ≡ other
+    one_facts report one other h k =
+        let known = known_of report.prefixes names wanted in
+        let same : stated_facts (known_of report.prefixes other_names other_wanted) report.facts ≡ renamed_read renamed.by (stated_facts known report.facts) =
+        below.stated renamed.by known (known_of report.prefixes other_names other_wanted) (renamed.known report.prefixes) report.facts in
+        one_read (stated_facts known report.facts) one other h
+        (subst (λ stated. IsRead asked other_names other_networks stated other) same k)
+
+  -- ---- `check`
+
+  one_opened : (check : CheckWords) (names other_names : List Expanded) (networks other_networks : List Network) (wanted other_wanted : Wanted)
+      → IsRenamed names networks wanted other_names other_networks other_wanted → (report : Result Opened ReportFault) (one other : Answer)
+      → IsOpenedAnswer check names networks wanted report one → IsOpenedAnswer check other_names other_networks other_wanted report other → one ≡ other
+  one_opened check names other_names networks other_networks wanted other_wanted renamed (Ok report) one other h k =
+      one_facts (check_asked check) names other_names networks other_networks wanted other_wanted renamed report one other h k
+  one_opened check names other_names networks other_networks wanted other_wanted renamed (Err fault) one other h k = same_some one other (report_refusal check.report fault) h k
+
+  one_over : (check : CheckWords) (report : List ℕ) (documents : List Document) (one other : Answer) → IsDocumentsAnswer check report documents one → IsDocumentsAnswer check report documents other → one ≡ other
+  one_over check report documents one other (inl h) (inl k) = one_refusal check.kind documents one other h k
+  one_over check report documents one other (inl h) (inr k) = absurd (refused_or_read check.kind documents one k.names k.networks k.wanted h k.taxonomy)
+  one_over check report documents one other (inr h) (inl k) = absurd (refused_or_read check.kind documents other h.names h.networks h.wanted k h.taxonomy)
+  one_over check report documents one other (inr h) (inr k) =
+      one_opened check h.names k.names h.networks k.networks h.wanted k.wanted
+      (one_taxonomy below.networks check.kind documents h.names h.networks h.wanted k.names k.networks k.wanted h.taxonomy k.taxonomy)
+      (opened report) one other h.answered k.answered
+
+  one_check : (check : CheckWords) (files : Files) (one other : Answer) → IsCheckAnswer check files one → IsCheckAnswer check files other → one ≡ other
+  one_check check files one other h k =
+      let bytes : h.bytes ≡ k.bytes = same_bytes h.bytes k.bytes (files check.report) h.held k.held in
+      let documents : h.documents ≡ k.documents = documents_are_one files check.documents h.documents k.documents h.read k.read in
+      one_over check k.bytes k.documents one other
+      (subst (λ ds. IsDocumentsAnswer check k.bytes ds one) documents (subst (λ bs. IsDocumentsAnswer check bs h.documents one) bytes h.answered)) k.answered
+
+  -- ---- `sum`
+
+  one_numbered : (sum : SumWords) (report : Opened) (one other : Answer) → IsNumberedAnswer sum report one → IsNumberedAnswer sum report other → one ≡ other
+  one_numbered sum report one other h k =
+      one_facts (sum_asked sum) h.names k.names (sum_network h.total (zip sum.terms h.terms) ∷ []) (sum_network k.total (zip sum.terms k.terms) ∷ []) h.wanted k.wanted
+      (one_sum report.prefixes h.names k.names sum h.total k.total h.terms k.terms h.wanted k.wanted h.numbers k.numbers)
+      report one other h.answered k.answered
+
+  one_report : (sum : SumWords) (report : Result Opened ReportFault) (one other : Answer) → IsReportAnswer sum report one → IsReportAnswer sum report other → one ≡ other
+  one_report sum (Ok report) one other (inl h) (inl k) = same_some one other (first_given (unbound report.prefixes sum.report) (named_words sum)) h k
+  one_report sum (Ok report) one other (inl h) (inr k) = absurd (some_none one (first_given (unbound report.prefixes sum.report) (named_words sum)) h k.bound)
+  one_report sum (Ok report) one other (inr h) (inl k) = absurd (some_none other (first_given (unbound report.prefixes sum.report) (named_words sum)) k h.bound)
+  one_report sum (Ok report) one other (inr h) (inr k) = one_numbered sum report one other h k
+  one_report sum (Err fault) one other h k = same_some one other (report_refusal sum.report fault) h k
+
+  one_summed : (sum : SumWords) (files : Files) (one other : Answer) → IsSumAnswer sum files one → IsSumAnswer sum files other → one ≡ other
+  one_summed sum files one other h k =
+      let bytes : h.bytes ≡ k.bytes = same_bytes h.bytes k.bytes (files sum.report) h.held k.held in
+      one_report sum (opened k.bytes) one other (subst (λ bs. IsReportAnswer sum (opened bs) one) bytes h.answered) k.answered
+
+  -- ---- commands
+
+  one_held : (command : CommandWords) (files : Files) (one other : Answer) → IsHeldAnswer command files one → IsHeldAnswer command files other → one ≡ other
+  one_held (SumOf sum) files one other h k = one_summed sum files one other h k
+  one_held (CheckOf check) files one other h k = one_check check files one other h k
+
+  one_command : (command : CommandWords) (files : Files) (one other : Answer) → IsCommandAnswer command files one → IsCommandAnswer command files other → one ≡ other
+  one_command command files one other (inl h) (inl k) = same_some one other (first_unfetched files (file_words command)) h k
+  one_command command files one other (inl h) (inr k) = absurd (some_none one (first_unfetched files (file_words command)) h k.fetched)
+  one_command command files one other (inr h) (inl k) = absurd (some_none other (first_unfetched files (file_words command)) k h.fetched)
+  one_command command files one other (inr h) (inr k) = one_held command files one other h.answered k.answered
+
+  pub one_answer : (words : Option CommandWords) (files : Files) (one other : Answer) → IsAnswer words files one → IsAnswer words files other → one ≡ other
+  one_answer None files one other h k = h ∙ sym k
+  one_answer (Some command) files one other h k = one_command command files one other h k

@@ -1,13 +1,13 @@
 -- How a run ended: steps from what its parts say.
-use Rattle.std.proofs.Common.{◌≡◌, ◌⊎◌, ◌<◌, ℕ, List, [], ◌∷◌, length, Bool, true, false, Option, Some, None, nat_lt, IfSome, refl, sym, ap, subst, ◌∙◌, inl, inr, cond, arith}
+use Rattle.std.proofs.Common.{◌≡◌, ◌⊎◌, ◌<◌, ℕ, List, [], ◌∷◌, length, Bool, true, false, Option, Some, None, nat_lt, refl, sym, ap, subst, inl, inr, cond, arith}
 use Rattle.std.specs.Prelude.{IsSomeAnd, codes}
 use Rattle.std.proofs.lemmas.Bool.Decides.{nat_tests}
 use Rattle.std.specs.Option.{option_or}
 use Rattle.xc_io.specs.Shelf.{Files}
-use Rattle.xc_lines.specs.Lines.{read_fault_line, usage_line}
-use Rattle.xc_top.specs.Answer.{IsAnswer, IsAnswerOf, IsCommandAnswer}
+use Rattle.xc_lines.specs.Lines.{usage_line}
+use Rattle.xc_top.specs.Answer.{IsAnswer, IsCommandAnswer}
 use Rattle.xc_top.specs.Answers.{make_answer, unread, refused}
-use Rattle.xc_top.specs.Documents.{limit, unfetched, unfetched_of, first_unfetched}
+use Rattle.xc_top.specs.Documents.{limit, unfetched_of, first_unfetched}
 use Rattle.xc_top.specs.Run.{IsAnswered, IsEnding, IsReadFaultOf, IsReadFaultLine, IsTooLong, AreHeldUpTo, HasFiles, IsUnrefused, IsJudged}
 use Rattle.xc_top.specs.Words.{CommandWords, file_words, words_of}
 use Rattle.xc_top.specs.declared.status.Answer.{Answer}

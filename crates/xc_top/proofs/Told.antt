@@ -1,10 +1,10 @@
 -- What a command answers, from what its parts answer.
-use Rattle.std.proofs.Common.{◌≡◌, ◌⊎◌, ℕ, List, [], ◌∷◌, Option, Some, None, Result, Ok, Err, inl, inr, refl, sym, ap, subst, ◌∙◌}
+use Rattle.std.proofs.Common.{◌≡◌, ℕ, List, [], ◌∷◌, Some, None, Result, Ok, Err, inl, inr, sym, ap, subst, ◌∙◌}
 use Rattle.std.specs.Option.{option_or}
 use Rattle.xc_io.specs.Shelf.{Files}
 use Rattle.xc_report.specs.Opened.{opened}
 use Rattle.xc_top.specs.Answer.{IsCommandAnswer}
-use Rattle.xc_top.specs.Answers.{Answers, IfStopped, IfNamed, IsAnswerIn}
+use Rattle.xc_top.specs.Answers.{Answers, IsAnswerIn}
 use Rattle.xc_top.specs.Checks.{IsDocumentsAnswer}
 use Rattle.xc_top.specs.Documents.{unfetched, first_unfetched, AreDocumentsOf}
 use Rattle.xc_top.specs.Run.{IsSettled, IsEnding}

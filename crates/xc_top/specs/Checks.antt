@@ -1,5 +1,5 @@
 -- What `check` answers.
-use Rattle.std.specs.Prelude.{◌≡◌, ◌⊎◌, ℕ, List, Some, None, Result, Ok, Err, codes}
+use Rattle.std.specs.Prelude.{◌≡◌, ◌⊎◌, ℕ, List, Some, Result, Ok, Err, codes}
 use Rattle.xc_calc.specs.declared.arc.Network.{Network}
 use Rattle.xc_io.specs.Shelf.{Files}
 use Rattle.xc_names.specs.declared.expanded.Expanded.{Expanded}

@@ -1,9 +1,13 @@
 //! What the definitions of this crate say.
 //!
-//! The contract of each function is the law; its body cites the laws of documents.
-ghost use Rattle.xc_top.specs.Laws.{DocumentsAreOne, FirstFaultsAreOne};
+//! The contract of each function is the law; its body cites the laws of documents, networks, reports, points and verdicts.
+ghost use Rattle.xc_top.specs.Laws.{AnswersAreOne, DocumentsAreOne};
 
+use xc_calc::laws::networks_are_one;
 use xc_elements::laws::{one_first_fault, one_tree, tree_or_fault};
+use xc_points::laws::one_range;
+use xc_report::laws::numbers_are_free;
+use xc_verdict::laws::one_verdict;
 
 /// The files of a taxonomy hold one list of documents, with their trees or first faults.
 pub fn documents_are_one()
@@ -14,10 +18,14 @@ pub fn documents_are_one()
     tree_or_fault();
 }
 
-/// Words and files have one answer where the words are not accepted, a file is not held or too long, or a document is
-/// neither a schema nor a linkbase.
-pub fn first_faults_are_one()
-    ensures { FirstFaultsAreOne }
+/// Words and files have one answer: one text, and one status. The numbers that expanded names get on the way, which the
+/// definitions leave free, change nothing of it.
+pub fn answers_are_one()
+    ensures { AnswersAreOne }
 {
     documents_are_one();
+    networks_are_one();
+    numbers_are_free();
+    one_range();
+    one_verdict();
 }

@@ -5,12 +5,14 @@ ghost use Rattle.xc_io.specs.Faults.{Rose};
 ghost use Rattle.xc_lines.specs.Lines.{usage_line};
 ghost use Rattle.xc_top.specs.Answer.{IsAnswerOf};
 ghost use Rattle.xc_top.specs.Answers.{make_answer};
+ghost use Rattle.xc_top.specs.Laws.{AnswersAreOne};
 ghost use Rattle.xc_top.specs.Run.{IsAnswered, AppendsPart, IsReadFaultLine, HasFiles, IsUnrefused, IsJudged};
 ghost use Rattle.xc_top.specs.Words.{words_of, texts};
 ghost use Rattle.xc_top.specs.declared.status.Answer.{Answer};
 
 use crate::Status;
 use crate::answer::answer_command;
+use crate::laws::answers_are_one;
 use crate::words::read_words;
 use std::alloc::Global;
 use xc_io::{Shelf, Sink, SinkFault};
@@ -31,6 +33,9 @@ pub fn run<S: Shelf, O: Sink>(alloc: Global, words: &[String], shelf: &mut S, ou
     ensures answer { IfSome (S.held shelf.old) (λ files. IsAnswered result →
         (text : List ℕ) × IsAnswerOf (texts words.now) files (make_answer result text)
         × Appends (O.written out.old) (O.written out.new) text) }
+
+    // There is no other: words and files have one answer, whatever numbers names get on the way.
+    ensures one { AnswersAreOne }
 
     // Only where the files that the words name are held, up to one that is too long.
     ensures held { IfSome (S.held shelf.old) (λ files. IsAnswered result →
@@ -66,6 +71,7 @@ pub fn run<S: Shelf, O: Sink>(alloc: Global, words: &[String], shelf: &mut S, ou
         ¬ Rose (O.faults out.old) (O.faults out.new) → IsUnrefused (texts words.now) files →
         (result ≡ Status.Memory) ⊎ IsJudged result) }
 {
+    answers_are_one();
     let Some(command) = read_words(words) else {
         return write_text(out, usage_line().as_bytes(), Status::Usage);
     };

@@ -1,0 +1,127 @@
+-- Facts, networks and points with other numbers for their concepts have the same lines, and facts one answer.
+use Rattle.std.proofs.Common.{◌≡◌, ◌++◌, ◌||◌, ℕ, codes, List, [], map, length, filter, Bool, true, false, Option, Some, None, MatchBool, option_map, option_and_then, slice_get, flat_map, zip, if◌then◌else◌, refl, sym, ap, ap₂, subst, ◌∙◌}
+use Rattle.std.proofs.Math.ListN.{length-map}
+use Rattle.std.proofs.lemmas.List.Folds.{flat_map-map}
+use Rattle.std.proofs.lemmas.Option.{slice_get-map}
+use Rattle.std.specs.List.{enumerate_from, list_any}
+use Rattle.std.specs.Option.{option_map_or}
+use Rattle.xc_bind.specs.Bindings.{bindings_of}
+use Rattle.xc_bind.specs.declared.types.Binding.{Binding}
+use Rattle.xc_bind.specs.declared.types.Verdict.{Verdict}
+use Rattle.xc_calc.specs.declared.arc.Network.{Network}
+use Rattle.xc_interval.specs.declared.mode.Mode.{Mode}
+use Rattle.xc_lines.specs.Findings.{role_of, first_id, first_id_at, is_empty_range, counts_line, binding_line, empty_point_line, line_of, binding_lines, empty_point_lines, findings}
+use Rattle.xc_points.specs.Laws.{HasOneRange}
+use Rattle.xc_points.specs.declared.types.Point.{Point}
+use Rattle.xc_report.specs.declared.reports.Fact.{Fact}
+use Rattle.xc_model.proofs.ListsOfImages.{any_changed, filter-map, behind_number, enumerate_from-map}
+use Rattle.xc_top.proofs.RenamedBindings.{bindings_renamed}
+use Rattle.xc_top.proofs.RenamedPoints.{points_renamed}
+use Rattle.xc_top.proofs.RenamedVerdicts.{one_verdicts}
+use Rattle.xc_report.specs.Renamed.{renamed_fact}
+use Rattle.xc_top.proofs.Renaming.{IsInjective, renamed_network, renamed_point}
+use Rattle.xc_top.specs.Answers.{make_answer, refused}
+use Rattle.xc_top.specs.Judged.{Asked, is_inconsistent, is_too_wide, is_empty_point, status_of, AreVerdicts, IsFindings, are_too_many, IsCounted}
+use Rattle.xc_top.specs.declared.status.Answer.{Answer}
+use Rattle.xc_top.specs.declared.status.Status.TheVariants.{Sound, Findings, TooWide}
+use Rattle.xc_verdict.specs.Laws.{HasOneVerdict}
+
+abbrev is_empty_numbered : ℕ × Point → Bool
+is_empty_numbered numbered = is_empty_range numbered.1.range
+
+abbrev empty_line : List Fact → ℕ × Point → List ℕ
+empty_line facts numbered = empty_point_line numbered.0 (first_id facts numbered.1)
+
+module _ (f : ℕ → ℕ) where
+  role_renamed : (networks : List Network) (n : ℕ) → role_of (map (renamed_network f) networks) n ≡ role_of networks n
+  role_renamed networks n = ap (λ o. option_map_or (λ (network : Network). network.role) o []) (slice_get-map (renamed_network f) networks n) ∙ by (slice_get networks n)
+    where
+      by : (o : Option Network) → option_map_or (λ network. network.role) (option_map (renamed_network f) o) [] ≡ option_map_or (λ network. network.role) o []
+      by None = refl
+      by (Some network) = refl
+
+  module _ (facts : List Fact) where
+    id_renamed : (n : ℕ) → option_map_or (λ (fact : Fact). fact.id) (slice_get (map (renamed_fact f) facts) n) [] ≡ option_map_or (λ (fact : Fact). fact.id) (slice_get facts n) []
+    id_renamed n = ap (λ o. option_map_or (λ (fact : Fact). fact.id) o []) (slice_get-map (renamed_fact f) facts n) ∙ by (slice_get facts n)
+      where
+        by : (o : Option Fact) → option_map_or (λ fact. fact.id) (option_map (renamed_fact f) o) [] ≡ option_map_or (λ fact. fact.id) o []
+        by None = refl
+        by (Some fact) = refl
+
+    first_id_renamed : (point : Point) → first_id (map (renamed_fact f) facts) (renamed_point f point) ≡ first_id facts point
+    first_id_renamed point = by (slice_get point.facts 0)
+      where
+        by : (o : Option ℕ) → option_map_or (λ (fact : Fact). fact.id) (option_and_then (λ n. slice_get (map (renamed_fact f) facts) n) o) [] ≡ option_map_or (λ (fact : Fact). fact.id) (option_and_then (λ n. slice_get facts n) o) []
+        by None = refl
+        by (Some n) = id_renamed n
+
+    first_id_at_renamed : (points : List Point) (k : ℕ) → first_id_at (map (renamed_fact f) facts) (map (renamed_point f) points) k ≡ first_id_at facts points k
+    first_id_at_renamed points k = ap (λ o. option_map_or (λ point. first_id (map (renamed_fact f) facts) point) o []) (slice_get-map (renamed_point f) points k) ∙ by (slice_get points k)
+      where
+        by : (o : Option Point) → option_map_or (λ point. first_id (map (renamed_fact f) facts) point) (option_map (renamed_point f) o) [] ≡ option_map_or (λ point. first_id facts point) o []
+        by None = refl
+        by (Some point) = first_id_renamed point
+
+    -- the lines of bindings
+    module _ (mode : Mode) (networks : List Network) (points : List Point) where
+      line_renamed : (number : ℕ) (judged : Binding × Verdict)
+          → line_of mode (map (renamed_fact f) facts) (map (renamed_network f) networks) (map (renamed_point f) points) number judged ≡ line_of mode facts networks points number judged
+      line_renamed number judged = ap₂ (λ role id. binding_line mode number role id judged.1) (role_renamed networks judged.0.network) (first_id_at_renamed points judged.0.total)
+
+      binding_lines_renamed : (judged : List (ℕ × (Binding × Verdict)))
+          → binding_lines mode (map (renamed_fact f) facts) (map (renamed_network f) networks) (map (renamed_point f) points) judged ≡ binding_lines mode facts networks points judged
+      binding_lines_renamed judged = λ i. flat_map (λ numbered. line_renamed numbered.0 numbered.1 i) judged
+
+    -- the lines of empty points
+    empty_lines_renamed : (numbered : List (ℕ × Point)) → empty_point_lines (map (renamed_fact f) facts) (map (behind_number (renamed_point f)) numbered) ≡ empty_point_lines facts numbered
+    empty_lines_renamed numbered =
+        ap (λ xs. flat_map (empty_line (map (renamed_fact f) facts)) xs) (filter-map (behind_number (renamed_point f)) is_empty_numbered numbered)
+        ∙ flat_map-map (empty_line (map (renamed_fact f) facts)) (behind_number (renamed_point f)) (filter is_empty_numbered numbered)
+        ∙ (λ i. flat_map (λ one. empty_point_line one.0 (first_id_renamed one.1 i)) (filter is_empty_numbered numbered))
+
+  -- the findings do not depend on the numbers of concepts
+  pub findings_renamed : (mode : Mode) (facts : List Fact) (networks : List Network) (points : List Point) (bindings : List Binding) (verdicts : List Verdict)
+      → findings mode (map (renamed_fact f) facts) (map (renamed_network f) networks) (map (renamed_point f) points) bindings verdicts ≡ findings mode facts networks points bindings verdicts
+  findings_renamed mode facts networks points bindings verdicts =
+      let count : length (map (renamed_point f) points) ≡ length points = length-map points (renamed_point f) in
+      let lines = binding_lines_renamed facts mode networks points (enumerate_from 0 (zip bindings verdicts)) in
+      let empty : empty_point_lines (map (renamed_fact f) facts) (enumerate_from 0 (map (renamed_point f) points)) ≡ empty_point_lines facts (enumerate_from 0 points) =
+      ap (λ numbered. empty_point_lines (map (renamed_fact f) facts) numbered) (enumerate_from-map (renamed_point f) 0 points) ∙ empty_lines_renamed facts (enumerate_from 0 points) in
+      λ i. counts_line (length bindings) (count i) ++ lines i ++ empty i
+
+  -- nor does the status
+  pub status_renamed : (points : List Point) (verdicts : List Verdict) → status_of (map (renamed_point f) points) verdicts ≡ status_of points verdicts
+  status_renamed points verdicts =
+      ap (λ (empty : Bool). if list_any is_inconsistent verdicts || empty then Findings else if list_any is_too_wide verdicts then TooWide else Sound)
+      (any_changed (renamed_point f) is_empty_point is_empty_point (λ point. refl) points)
+
+-- ---- one answer
+
+module _ (one_range : HasOneRange) (one_verdict : HasOneVerdict) (f : ℕ → ℕ) (injective : IsInjective f) (asked : Asked) (networks : List Network) (facts : List Fact) where
+  same_findings : (one other : Answer) → IsFindings asked networks facts one → IsFindings asked (map (renamed_network f) networks) (map (renamed_fact f) facts) other → one ≡ other
+  same_findings one other h k =
+      let points = points_renamed one_range f injective asked.mode facts h.points k.points h.points_are k.points_are in
+      let bindings = ap (λ ps. bindings_of (map (renamed_network f) networks) ps) points ∙ bindings_renamed f injective networks h.points.points in
+      let verdicts_are : AreVerdicts asked.mode (map (renamed_fact f) facts) (map (renamed_point f) h.points.points) (bindings_of networks h.points.points) k.verdicts =
+      subst (λ bs. AreVerdicts asked.mode (map (renamed_fact f) facts) (map (renamed_point f) h.points.points) bs k.verdicts) bindings
+      (subst (λ ps. AreVerdicts asked.mode (map (renamed_fact f) facts) ps (bindings_of (map (renamed_network f) networks) k.points.points) k.verdicts) points k.verdicts_are) in
+      let verdicts = one_verdicts one_verdict f asked.mode facts h.points.points (bindings_of networks h.points.points) h.verdicts k.verdicts h.verdicts_are verdicts_are in
+      let status : status_of k.points.points k.verdicts ≡ status_of h.points.points h.verdicts =
+      (λ i. status_of (points i) (sym verdicts i)) ∙ status_renamed f h.points.points h.verdicts in
+      let lines = (λ i. findings asked.mode (map (renamed_fact f) facts) (map (renamed_network f) networks) (points i) (bindings i) (sym verdicts i))
+      ∙ findings_renamed f asked.mode facts networks h.points.points (bindings_of networks h.points.points) h.verdicts in
+      h.is ∙ sym (k.is ∙ ap₂ (λ status lines. make_answer status (lines ++ asked.close)) status lines)
+
+-- facts have one answer, whatever the numbers of names
+pub one_counted : HasOneRange → HasOneVerdict → (f : ℕ → ℕ) → IsInjective f → (asked : Asked) (networks : List Network) (facts : List Fact) (one other : Answer)
+    → IsCounted asked networks facts one → IsCounted asked (map (renamed_network f) networks) (map (renamed_fact f) facts) other → one ≡ other
+one_counted one_range one_verdict f injective asked networks facts one other h k =
+    by (are_too_many (length facts) (length networks)) h
+    (subst (λ many. MatchBool many (other ≡ refused asked.word (codes "xc:tooMany")) (IsFindings asked (map (renamed_network f) networks) (map (renamed_fact f) facts) other)) many k)
+  where
+    many : are_too_many (length (map (renamed_fact f) facts)) (length (map (renamed_network f) networks)) ≡ are_too_many (length facts) (length networks)
+    many = ap₂ (λ m n. are_too_many m n) (length-map facts (renamed_fact f)) (length-map networks (renamed_network f))
+
+    by : (b : Bool) → MatchBool b (one ≡ refused asked.word (codes "xc:tooMany")) (IsFindings asked networks facts one) → MatchBool b (other ≡ refused asked.word (codes "xc:tooMany")) (IsFindings asked (map (renamed_network f) networks) (map (renamed_fact f) facts) other) → one ≡ other
+    by true h k = h ∙ sym k
+    by false h k = same_findings one_range one_verdict f injective asked networks facts one other h k

@@ -1,5 +1,6 @@
 // Whole runs over files in memory, with the exact text that they write.
 mod faults;
+mod filing;
 mod judged;
 mod refusals;
 

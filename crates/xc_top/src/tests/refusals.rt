@@ -11,7 +11,7 @@ const SCHEMA_HEAD: &str =
     "<xs:schema xmlns:xs=\"http://www.w3.org/2001/XMLSchema\" targetNamespace=\"http://example.com/t\">";
 
 // A document in place of the linkbase, and what is written.
-const DOCUMENTS: [(&[u8], &str); 11] = [
+const DOCUMENTS: [(&[u8], &str); 13] = [
     (b"\xFF", "refused c.xml xc:notUtf8 0\n"),
     (b"<a>&x;</a>", "refused c.xml xc:notItem 3\n"),
     (b"<!DOCTYPE a><a/>", "refused c.xml xc:doctype 0\n"),
@@ -35,6 +35,14 @@ const DOCUMENTS: [(&[u8], &str); 11] = [
         "refused c.xml xc:badPrefix 1\n",
     ),
     (b"", "refused c.xml xc:unbalanced 0\n"),
+    (
+        b"<l:linkbase xmlns:l=\"http://www.xbrl.org/2003/linkbase\" xmlns:x=\"http://www.w3.org/1999/xlink\"><l:calculationLink><l:calculationArc x:type=\"arc\" x:arcrole=\"https://xbrl.org/2023/arcrole/summation-item\" order=\"x\" weight=\"1\"/></l:calculationLink></l:linkbase>",
+        "refused c.xml xc:badOrder 2\n",
+    ),
+    (
+        b"<l:linkbase xmlns:l=\"http://www.xbrl.org/2003/linkbase\" xmlns:x=\"http://www.w3.org/1999/xlink\"><l:calculationLink><l:calculationArc x:type=\"arc\" x:arcrole=\"https://xbrl.org/2023/arcrole/summation-item\" order=\"1\" weight=\"1\"/></l:calculationLink></l:linkbase>",
+        "refused c.xml xc:noLocator 2\n",
+    ),
 ];
 
 #[test]

@@ -7,8 +7,8 @@ use Rattle.std.specs.declared.cmp.Ordering.TheVariants.{Less, Equal, Greater}
 use Rattle.xc_bind.specs.Bindings.{is_point_of, number_of}
 use Rattle.xc_bind.specs.Places.{place_at, place_of}
 use Rattle.xc_bind.specs.declared.point_index.Place.{Place}
-use Rattle.xc_frac.specs.Firsts.{first_equal}
-use Rattle.xc_model.proofs.Positions.{find_at, position_from_congr, position_from-map}
+use Rattle.xc_lists.specs.Firsts.{first_equal}
+use Rattle.xc_lists.proofs.Positions.{find_at, position_from_congr, position_from-map}
 use Rattle.xc_names.specs.declared.expanded.NameId.{NameId}
 use Rattle.xc_points.specs.declared.types.Point.{Point}
 

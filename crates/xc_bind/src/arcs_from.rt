@@ -6,7 +6,7 @@ use std::alloc::Global;
 use std::collections::BTreeMap;
 use std::marker::Model;
 use xc_calc::Arc;
-use xc_frac::Memory;
+use xc_lists::Memory;
 use xc_names::NameId;
 
 /// Arcs, of which those from one concept are found without going through the others.

@@ -8,7 +8,7 @@ use crate::point_index::PointIndex;
 use crate::types::{Binding, Term};
 use std::alloc::Global;
 use xc_calc::{Arc, Network};
-use xc_frac::{Items, Memory};
+use xc_lists::{Items, Memory};
 use xc_points::{Point, Points};
 
 /// The bindings of a report: each point that is a total of a network, where a contributor is reported beside

@@ -5,7 +5,7 @@ ghost use Rattle.xc_bind.specs.Places.{place_at, place_of};
 
 use std::alloc::Global;
 use std::marker::Model;
-use xc_frac::{Firsts, Memory};
+use xc_lists::{Firsts, Memory};
 use xc_names::NameId;
 use xc_points::Point;
 

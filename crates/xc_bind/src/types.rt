@@ -1,6 +1,6 @@
 // Bindings and what is said of them.
 use xc_decimal::Decimal;
-use xc_frac::Items;
+use xc_lists::Items;
 
 /// A contributor of a binding.
 #[derive(Clone, Copy, Debug)]

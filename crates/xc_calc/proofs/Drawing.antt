@@ -7,8 +7,8 @@ use Rattle.std.specs.Option.{option_or, option_map_or}
 use Rattle.xc_calc.specs.Ends.{end_of_link, end_at, sources, targets}
 use Rattle.xc_calc.specs.Linkbases.{is_locator, xlink_at}
 use Rattle.xc_calc.specs.Rules.{attribute_fault, ends_fault, locator_fault, arc_fault}
-use Rattle.xc_model.proofs.Ranges.{before_more}
-use Rattle.xc_model.specs.Places.{before, first_given}
+use Rattle.xc_lists.proofs.Ranges.{before_more}
+use Rattle.xc_lists.specs.Places.{before, first_given}
 use Rattle.xc_concepts.specs.declared.schema.Schema.{Schema}
 use Rattle.xc_calc.specs.declared.fault.LinkFault.{LinkFault}
 use Rattle.xc_elements.specs.Trees.{parent_of}

@@ -1,8 +1,8 @@
 -- What passes a test among the places before one more.
 use Rattle.std.proofs.Common.{◌≡◌, ◌+◌, ◌++◌, ℕ, [], ◌∷◌, Bool, true, false, if◌then◌else◌, filter, ap, ◌∙◌, append-nil}
 use Rattle.std.proofs.lemmas.List.Elements.{filter-append}
-use Rattle.xc_model.proofs.Ranges.{before_more}
-use Rattle.xc_model.specs.Places.{before}
+use Rattle.xc_lists.proofs.Ranges.{before_more}
+use Rattle.xc_lists.specs.Places.{before}
 
 module _ (p : ℕ → Bool) (k : ℕ) where
   more : filter p (before (k + 1)) ≡ filter p (before k) ++ filter p (k ∷ [])

@@ -13,7 +13,7 @@ use Rattle.xc_calc.specs.Effective.{effective_arcs}
 use Rattle.xc_calc.specs.Networks.{by_bytes, has_role, some_role, arcs_of, AreNetworks}
 use Rattle.xc_calc.specs.declared.arc.ListedArc.{ListedArc}
 use Rattle.xc_calc.specs.declared.arc.Network.{Network}
-use Rattle.xc_model.proofs.Anys.{any_map, any_put_in, any_step}
+use Rattle.xc_lists.proofs.Anys.{any_map, any_put_in, any_step}
 
 -- one of these texts is the role
 abbrev pub has_text : List (Bor (List ℕ)) → List ℕ → Bool

@@ -6,7 +6,7 @@ use Rattle.std.specs.Str.{bytes_eq}
 use Rattle.xc_calc.specs.declared.arc.ListedArc.{ListedArc}
 use Rattle.xc_calc.specs.declared.arc.Use.{Use}
 use Rattle.xc_calc.specs.declared.arc.Use.TheVariants.{Optional, Prohibited}
-use Rattle.xc_model.specs.Places.{places}
+use Rattle.xc_lists.specs.Places.{places}
 use Rattle.xc_decimal.specs.Shortest.{Shortest}
 use Rattle.xc_elements.specs.declared.nodes.Attribute.{Attribute}
 

@@ -4,7 +4,7 @@ use Rattle.std.specs.List.{list_any, position_or_len, before_first, after_first}
 use Rattle.std.specs.Option.{option_map_or}
 use Rattle.xc_calc.specs.Linkbases.{is_locator, xlink_at}
 use Rattle.xc_concepts.specs.Held.{number_by_id}
-use Rattle.xc_model.specs.Places.{places}
+use Rattle.xc_lists.specs.Places.{places}
 use Rattle.xc_concepts.specs.declared.schema.Schema.{Schema}
 use Rattle.xc_elements.specs.Trees.{parent_of}
 use Rattle.xc_elements.specs.declared.nodes.Node.{Node}

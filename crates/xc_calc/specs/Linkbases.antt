@@ -4,10 +4,10 @@ use Rattle.std.specs.Option.{option_map_or}
 use Rattle.std.specs.Str.{bytes_eq}
 use Rattle.xc_calc.specs.declared.arc.ArcKind.{ArcKind}
 use Rattle.xc_calc.specs.declared.arc.ArcKind.TheVariants.{New, Old}
-use Rattle.xc_model.specs.Places.{is_place}
+use Rattle.xc_lists.specs.Places.{is_place}
 use Rattle.xc_elements.specs.Trees.{parent_of, attribute_of}
 use Rattle.xc_elements.specs.declared.nodes.Node.{Node}
-use Rattle.xc_frac.specs.Trimmed.{trimmed}
+use Rattle.xc_chars.specs.Trimmed.{trimmed}
 
 -- the namespace of linkbases: XBRL 2.1, section 3.5
 abbrev pub link_space : List ℕ

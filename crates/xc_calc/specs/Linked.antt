@@ -8,7 +8,7 @@ use Rattle.xc_calc.specs.declared.arc.ArcKind.{ArcKind}
 use Rattle.xc_calc.specs.declared.arc.ListedArc.{ListedArc}
 use Rattle.xc_calc.specs.declared.arc.Use.{Use}
 use Rattle.xc_calc.specs.declared.drawn.Drawn.{Drawn}
-use Rattle.xc_model.specs.Places.{places}
+use Rattle.xc_lists.specs.Places.{places}
 use Rattle.xc_concepts.specs.declared.schema.Schema.{Schema}
 use Rattle.xc_decimal.specs.Shortest.{Shortest}
 use Rattle.xc_elements.specs.Trees.{parent_of}

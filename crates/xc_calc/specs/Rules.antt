@@ -8,7 +8,7 @@ use Rattle.xc_calc.specs.declared.arc.ArcKind.{ArcKind}
 use Rattle.xc_calc.specs.declared.fault.LinkFault.{LinkFault}
 use Rattle.xc_calc.specs.declared.fault.LinkFault.TheVariants.{BadWeight, ZeroWeight, BadOrder, BadPriority, BadUse, NoLocator, Unresolved, UnknownType, NodeNotDecimal}
 use Rattle.xc_concepts.specs.Chains.{kind_of}
-use Rattle.xc_model.specs.Places.{places, first_given}
+use Rattle.xc_lists.specs.Places.{places, first_given}
 use Rattle.xc_concepts.specs.declared.kind.Kind.{Kind}
 use Rattle.xc_concepts.specs.declared.kind.Kind.TheVariants.{Decimal, Other, Unknown}
 use Rattle.xc_concepts.specs.declared.schema.Schema.{Schema}

@@ -1,6 +1,6 @@
 use xc_decimal::Decimal;
 use xc_elements::Attribute;
-use xc_frac::{Items, Text};
+use xc_lists::{Items, Text};
 use xc_names::NameId;
 
 /// Which arcs count: those with the arcrole of Calculations 1.1, or those with the one of XBRL 2.1.

@@ -16,7 +16,7 @@ use std::alloc::Global;
 use std::marker::Model;
 use xc_concepts::Concepts;
 use xc_elements::Tree;
-use xc_frac::{Items, Memory};
+use xc_lists::{Items, Memory};
 use xc_names::Wanted;
 
 /// The arcs of calculation linkbases, in the order in which they are read: by document, and in each by

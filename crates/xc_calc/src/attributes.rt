@@ -7,7 +7,7 @@ use crate::elements::{XLINK_SPACE, plain_at};
 use std::alloc::Global;
 use xc_decimal::{Decimal, read_decimal};
 use xc_elements::{Attribute, DECLARATIONS_SPACE, Tree};
-use xc_frac::Memory;
+use xc_lists::Memory;
 
 fn decimal_of(text: &str) -> Option<Decimal>
     ensures { result ≡ decimal_of text.now }

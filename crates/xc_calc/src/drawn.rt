@@ -12,7 +12,7 @@ use std::alloc::Global;
 use xc_concepts::parent_of;
 use xc_decimal::Decimal;
 use xc_elements::{Attribute, Tree};
-use xc_frac::{Items, Memory, Text};
+use xc_lists::{Items, Memory, Text};
 
 /// What an arc element says of each of its arcs.
 #[derive(Drop)]

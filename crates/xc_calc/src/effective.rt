@@ -7,7 +7,7 @@ use crate::arc::{ListedArc, Use};
 use std::alloc::Global;
 use xc_decimal::Decimal;
 use xc_elements::Attribute;
-use xc_frac::Memory;
+use xc_lists::Memory;
 
 fn is_same_number(a: Decimal, b: Decimal) -> bool
     ensures { result ≡ is_same_number a b }

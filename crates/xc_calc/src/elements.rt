@@ -3,9 +3,9 @@ ghost use Rattle.std.specs.Prelude.{◌≡◌, ◌<◌, length, option_map};
 ghost use Rattle.xc_calc.specs.Linkbases.{is_linkbase, is_link_node, is_link_element, is_child, value_at, xlink_at, plain_at, is_link, role_at, chosen_arcrole, is_text, is_in_link, is_arc, is_chosen, is_locator};
 
 use crate::arc::ArcKind;
+use xc_chars::trimmed;
 use xc_concepts::parent_of;
 use xc_elements::{Node, Tree};
-use xc_frac::trimmed;
 
 const LINK_SPACE: &str = "http://www.xbrl.org/2003/linkbase";
 

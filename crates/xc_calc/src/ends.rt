@@ -1,13 +1,13 @@
 // The locators at the ends of an arc element, and the concepts that they name.
 ghost use Rattle.std.specs.Prelude.{◌≡◌, ◌<◌, length, option_map, IfOk};
 ghost use Rattle.xc_calc.specs.Ends.{around_hash, after_slash, file_name, resolved, located, locators, end_at};
-ghost use Rattle.xc_names.specs.PlainNames.{pair_view};
+ghost use Rattle.xc_chars.specs.PlainNames.{pair_view};
 
 use crate::elements::{is_locator, xlink_at};
 use std::alloc::Global;
 use xc_concepts::{Concepts, count, parent_of};
 use xc_elements::Tree;
-use xc_frac::Memory;
+use xc_lists::Memory;
 use xc_names::NameId;
 
 // What stands before the first `#` of an href, and after it.

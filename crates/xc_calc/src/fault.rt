@@ -29,10 +29,10 @@ pub enum LinkFault {
     NodeNotDecimal(u32),
 }
 
-impl From<xc_frac::Memory> for LinkFault {
+impl From<xc_lists::Memory> for LinkFault {
     ghost from_gives = { λ _ e. e ≡ Memory };
 
-    fn from(_memory: xc_frac::Memory) -> LinkFault {
+    fn from(_memory: xc_lists::Memory) -> LinkFault {
         LinkFault::Memory
     }
 }

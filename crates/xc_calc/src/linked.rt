@@ -3,7 +3,7 @@ ghost use Rattle.std.specs.Prelude.{◌≡◌, ◌<◌, ◌++◌, ◌⊎◌, Som
 ghost use Rattle.xc_calc.specs.Ends.{located, sources, targets};
 ghost use Rattle.xc_calc.specs.Linked.{arc_between, arcs_between, concepts_at, arcs_of_element, arcs_at, arcs_in};
 ghost use Rattle.xc_calc.specs.Rules.{kind_fault, locator_fault, ends_fault, arc_fault, broken_at, first_broken};
-ghost use Rattle.xc_model.specs.Places.{first_given};
+ghost use Rattle.xc_lists.specs.Places.{first_given};
 
 use crate::arc::{Arc, ArcKind, ListedArc};
 use crate::attributes::copies;
@@ -14,7 +14,7 @@ use crate::fault::LinkFault;
 use std::alloc::Global;
 use xc_concepts::{Concepts, Kind, count};
 use xc_elements::Tree;
-use xc_frac::{Items, Memory};
+use xc_lists::{Items, Memory};
 use xc_names::NameId;
 
 // The fault of a locator whose concept has this kind.

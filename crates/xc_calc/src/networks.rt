@@ -8,7 +8,7 @@ ghost use Rattle.xc_calc.specs.Networks.{by_bytes, arcs_of, some_role};
 use crate::arc::{Arc, ListedArc, Network};
 use std::alloc::Global;
 use std::collections::BTreeSet;
-use xc_frac::{Items, Memory, Text};
+use xc_lists::{Items, Memory, Text};
 
 /// The roles of arcs.
 pub(crate) fn roles_of<'a>(

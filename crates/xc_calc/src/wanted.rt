@@ -5,7 +5,7 @@ ghost use Rattle.xc_names.specs.NameSets.{is_among};
 
 use crate::arc::{Arc, ListedArc};
 use std::alloc::Global;
-use xc_frac::Memory;
+use xc_lists::Memory;
 use xc_names::{NameId, NameSet};
 
 // Notes the concepts at both ends of an arc.

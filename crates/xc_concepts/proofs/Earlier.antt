@@ -3,7 +3,7 @@ use Rattle.std.proofs.Common.{◌≡◌, ◌<◌, ◌≤◌, ◌+◌, ℕ, zero,
 use Rattle.std.proofs.lemmas.Bool.Decides.{nat_tests}
 use Rattle.std.specs.List.{range_with_len}
 use Rattle.std.specs.Option.{option_or}
-use Rattle.xc_model.specs.Places.{first_given, first_place, place_where}
+use Rattle.xc_lists.specs.Places.{first_given, first_place, place_where}
 use Rattle.xc_concepts.specs.Rules.{Broken, nameless_fault, id_fault, concept_fault, earlier, broken_at, is_nameless, repeats_id, repeats_concept}
 use Rattle.xc_concepts.specs.declared.fault.SchemaFault.TheVariants.{BadPrefix, SameId, SameConcept}
 use Rattle.xc_concepts.specs.declared.schema.Schema.{Schema}

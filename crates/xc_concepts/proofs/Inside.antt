@@ -4,7 +4,7 @@ use Rattle.std.specs.List.{list_any}
 use Rattle.std.proofs.lemmas.Bool.Decides.{Decides-eqb}
 use Rattle.std.proofs.lemmas.Option.{slice_get-get_or}
 use Rattle.std.proofs.lemmas.Bool.{eqb-true}
-use Rattle.xc_model.specs.Places.{is_place}
+use Rattle.xc_lists.specs.Places.{is_place}
 use Rattle.xc_concepts.specs.References.{Reference, make_reference, owner_of, base_at}
 use Rattle.xc_concepts.specs.Schemas.{is_schema_element, text_at, around, restricted_type, restricted_element}
 use Rattle.xc_concepts.specs.declared.references.Owner.{Owner}

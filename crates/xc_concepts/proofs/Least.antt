@@ -3,8 +3,8 @@ use Rattle.std.proofs.Common.{◌≡◌, ◌<◌, ◌-◌, ◌==◌, ◌||◌, �
 use Rattle.std.proofs.lemmas.Bool.{cases_lt, eqb-true, eq-eqb, false_from_ne_true}
 use Rattle.std.proofs.lemmas.List.Folds.{list_any-append}
 use Rattle.std.specs.List.{list_any, range_with_len}
-use Rattle.xc_model.proofs.Ranges.{first_after, first_here, first_none}
-use Rattle.xc_model.specs.Places.{least, first_place, place_where}
+use Rattle.xc_lists.proofs.Ranges.{first_after, first_here, first_none}
+use Rattle.xc_lists.specs.Places.{least, first_place, place_where}
 
 -- the place is one of the list
 abbrev pub has_place : List ℕ → ℕ → Bool

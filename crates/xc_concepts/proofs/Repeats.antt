@@ -9,13 +9,13 @@ use Rattle.std.specs.Option.{option_map_or}
 use Rattle.std.specs.Str.{bytes_eq}
 use Rattle.xc_concepts.specs.Declarations.{declared_at, concepts_in}
 use Rattle.xc_concepts.specs.Lent.{is_text_of, is_concept_of}
-use Rattle.xc_model.specs.Places.{before, is_repeated}
+use Rattle.xc_lists.specs.Places.{before, is_repeated}
 use Rattle.xc_concepts.specs.Rules.{is_same_name, repeats_concept}
 use Rattle.xc_concepts.specs.Schemas.{target, top_name}
 use Rattle.xc_concepts.specs.declared.schema.Concept.{Concept}
 use Rattle.xc_concepts.specs.declared.schema.Schema.{Schema}
 use Rattle.xc_elements.specs.declared.nodes.Node.{Node}
-use Rattle.xc_model.proofs.Anys.{any_map}
+use Rattle.xc_lists.proofs.Anys.{any_map}
 use Rattle.xc_names.specs.Names.{name_of}
 use Rattle.xc_names.specs.declared.expanded.Expanded.{Expanded}
 

@@ -9,7 +9,7 @@ use Rattle.std.specs.Cmp.{IsEquivalence}
 use Rattle.std.specs.List.{AllByRecursion, IsDistinct, list_any}
 use Rattle.std.specs.Option.{option_map_or}
 use Rattle.std.specs.Str.{bytes_eq}
-use Rattle.xc_model.proofs.Anys.{any_map}
+use Rattle.xc_lists.proofs.Anys.{any_map}
 use Rattle.xc_concepts.specs.Chains.{is_decimal, is_item_type, type_named, base_name, next_name, IsChain, kind_by_last, IsKindBy}
 use Rattle.xc_concepts.specs.Rules.{is_same_name}
 use Rattle.xc_concepts.specs.declared.kind.Kind.{Kind}

@@ -1,6 +1,6 @@
 -- What schemas declare: XBRL 2.1, section 5.1.1.
 use Rattle.std.specs.Prelude.{◌≡◌, ℕ, List, codes, map, flat_map, filter_map, Option, option_map, option_and_then, is_some}
-use Rattle.xc_model.specs.Places.{places}
+use Rattle.xc_lists.specs.Places.{places}
 use Rattle.xc_concepts.specs.References.{type_name, type_of_element, base_of_type}
 use Rattle.xc_concepts.specs.Schemas.{dimensions_space, text_at, top_name, target}
 use Rattle.xc_concepts.specs.declared.schema.Concept.{Concept}

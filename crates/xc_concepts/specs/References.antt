@@ -2,7 +2,7 @@
 use Rattle.std.specs.Prelude.{ℕ, List, [], codes, Option, Some, None, option_map, option_and_then, unwrap_or, is_some, if◌then◌else◌}
 use Rattle.std.specs.Borrow.{Bor}
 use Rattle.std.specs.Option.{option_or}
-use Rattle.xc_model.specs.Places.{places, is_place, first_given}
+use Rattle.xc_lists.specs.Places.{places, is_place, first_given}
 use Rattle.xc_concepts.specs.Schemas.{text_at, top_name, restricted_type, restricted_element}
 use Rattle.xc_concepts.specs.declared.references.Owner.{Owner}
 use Rattle.xc_concepts.specs.declared.references.Owner.TheVariants.{OfType, OfElement}
@@ -10,7 +10,7 @@ use Rattle.xc_concepts.specs.declared.references.Reference as lent
 use Rattle.xc_elements.specs.Trees.{space_in_scope}
 use Rattle.xc_elements.specs.declared.nodes.Node.{Node}
 use Rattle.xc_names.specs.Names.{name_of}
-use Rattle.xc_names.specs.PlainNames.{is_plain_name, split}
+use Rattle.xc_chars.specs.PlainNames.{is_plain_name, split}
 use Rattle.xc_names.specs.declared.expanded.Expanded.{Expanded}
 
 -- a text that names a type, at a node

@@ -3,7 +3,7 @@ use Rattle.std.specs.Prelude.{◌==◌, nat_lt, ℕ, Bool, List, [], map, filter
 use Rattle.std.specs.List.{list_any}
 use Rattle.std.specs.Str.{bytes_eq}
 use Rattle.xc_concepts.specs.Declarations.{declared_at, concepts_in}
-use Rattle.xc_model.specs.Places.{places, first_given, is_repeated}
+use Rattle.xc_lists.specs.Places.{places, first_given, is_repeated}
 use Rattle.xc_concepts.specs.References.{type_name, judged_at}
 use Rattle.xc_concepts.specs.Schemas.{text_at}
 use Rattle.xc_concepts.specs.declared.fault.SchemaFault.{SchemaFault}

@@ -2,10 +2,10 @@
 use Rattle.std.specs.Prelude.{◌&&◌, ℕ, Bool, false, List, [], codes, Option, None, option_map, option_and_then, unwrap_or, slice_get, if◌then◌else◌}
 use Rattle.std.specs.Option.{option_map_or}
 use Rattle.std.specs.Str.{bytes_eq}
-use Rattle.xc_model.specs.Places.{is_place}
+use Rattle.xc_lists.specs.Places.{is_place}
 use Rattle.xc_elements.specs.Trees.{parent_of, attribute_of}
 use Rattle.xc_elements.specs.declared.nodes.Node.{Node}
-use Rattle.xc_frac.specs.Trimmed.{trimmed}
+use Rattle.xc_chars.specs.Trimmed.{trimmed}
 
 -- the namespace of XML Schema
 abbrev pub schema_space : List ℕ

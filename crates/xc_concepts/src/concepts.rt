@@ -15,7 +15,7 @@ use crate::typed::{is_typed, typed_numbers};
 use std::alloc::Global;
 use std::marker::Model;
 use xc_elements::Tree;
-use xc_frac::Memory;
+use xc_lists::Memory;
 use xc_names::{NameId, Names};
 
 /// What the schemas of a taxonomy declare, in the order in which they are added.

@@ -1,11 +1,11 @@
 // The elements of a schema document.
 ghost use Rattle.std.specs.Prelude.{◌≡◌, ◌<◌, IfSome, length, option_map};
 ghost use Rattle.xc_concepts.specs.Schemas.{is_schema, is_schema_node, is_schema_element, text_at, is_top, top_name, target, around, restricted_type, restricted_element};
-ghost use Rattle.xc_model.specs.Places.{is_place};
+ghost use Rattle.xc_lists.specs.Places.{is_place};
 ghost use Rattle.xc_elements.specs.Trees.{parent_of};
 
+use xc_chars::trimmed;
 use xc_elements::{Node, Tree};
-use xc_frac::trimmed;
 
 const SCHEMA_SPACE: &str = "http://www.w3.org/2001/XMLSchema";
 

@@ -27,10 +27,10 @@ impl From<AllocError> for SchemaFault {
     }
 }
 
-impl From<xc_frac::Memory> for SchemaFault {
+impl From<xc_lists::Memory> for SchemaFault {
     ghost from_gives = { λ _ e. e ≡ Memory };
 
-    fn from(_memory: xc_frac::Memory) -> SchemaFault {
+    fn from(_memory: xc_lists::Memory) -> SchemaFault {
         SchemaFault::Memory
     }
 }

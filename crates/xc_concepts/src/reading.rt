@@ -10,7 +10,7 @@ use crate::references::{Reference, base_of_type, type_name, type_of_element};
 use crate::schema::{Concept, Declared, NamedType, Schema};
 use std::alloc::Global;
 use xc_elements::Tree;
-use xc_frac::{Items, Memory, Text};
+use xc_lists::{Items, Memory, Text};
 use xc_names::{Expanded, Names};
 
 const DIMENSIONS_SPACE: &str = "http://xbrl.org/2005/xbrldt";

@@ -1,12 +1,12 @@
 // The texts of a schema that name types, and the types that they name.
 ghost use Rattle.std.specs.Prelude.{◌≡◌, ◌<◌, IfSome, length, option_map};
-ghost use Rattle.xc_model.specs.Places.{is_place};
+ghost use Rattle.xc_lists.specs.Places.{is_place};
 ghost use Rattle.xc_concepts.specs.Schemas.{restricted_type, restricted_element};
 ghost use Rattle.xc_concepts.specs.References.{reference_view, lent_name, default_space, type_name, owner_of, base_at, first_base, base_of_type, type_of_element, judged_at};
 
 use crate::elements::{around, count, text_at, top_name};
+use xc_chars::{is_plain_name, split};
 use xc_elements::Tree;
-use xc_names::{is_plain_name, split};
 
 /// A text that names a type, at a node of the document that lends it.
 #[derive(Clone, Copy)]

@@ -2,7 +2,7 @@
 ghost use Rattle.std.specs.Prelude.{◌≡◌, ◌<◌, ◌||◌, length, option_map, IfOk, IfSome};
 ghost use Rattle.std.specs.List.{list_any};
 ghost use Rattle.std.specs.Str.{bytes_eq};
-ghost use Rattle.xc_model.specs.Places.{places, first_place, first_given, least};
+ghost use Rattle.xc_lists.specs.Places.{places, first_place, first_given, least};
 ghost use Rattle.xc_concepts.specs.Rules.{nameless_at, nameless_fault, id_fault, concept_fault, is_nameless, id_at, repeats_id, repeats_concept, earlier, broken_at};
 ghost use Rattle.xc_concepts.specs.Lent.{is_text_of, is_concept_of};
 ghost use Rattle.xc_names.specs.Names.{is_named};
@@ -14,7 +14,7 @@ use crate::references::{judged_at, type_name};
 use crate::schema::Schema;
 use std::alloc::Global;
 use xc_elements::Tree;
-use xc_frac::Memory;
+use xc_lists::Memory;
 
 /// The first rule that a node of the document breaks.
 pub(crate) fn first_broken(

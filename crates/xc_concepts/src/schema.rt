@@ -1,4 +1,4 @@
-use xc_frac::{Items, Text};
+use xc_lists::{Items, Text};
 use xc_names::{Expanded, NameId};
 
 /// What an element declares that is a concept: an `xs:element` child of a schema's root with a name.

@@ -4,7 +4,7 @@ use crate::{Concepts, Kind, SchemaFault, is_schema};
 use std::alloc::{AllocError, Global};
 use std::test::Fail;
 use xc_elements::read_tree;
-use xc_frac::Memory;
+use xc_lists::Memory;
 use xc_names::{NameId, Names};
 
 const SPACE: &str = "http://example.com/t";

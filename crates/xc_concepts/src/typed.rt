@@ -6,7 +6,7 @@ ghost use Rattle.xc_names.specs.NameSets.{is_among};
 
 use crate::schema::{Concept, Schema};
 use std::alloc::Global;
-use xc_frac::Memory;
+use xc_lists::Memory;
 use xc_names::{NameId, NameSet};
 
 /// Whether a typed concept has this number.

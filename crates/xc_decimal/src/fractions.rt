@@ -8,7 +8,8 @@ ghost use Rattle.xc_decimal.specs.Spelling.{spelling, is_slash, is_numeral, with
 
 use crate::digits::{are_digits, number_behind, signed};
 use std::alloc::Global;
-use xc_frac::{Frac, Memory};
+use xc_frac::Frac;
+use xc_lists::Memory;
 
 /// Appends the one spelling of a fraction: its numerator where the denominator is 1, and else
 /// numerator, `/`, denominator, in lowest terms and without leading zeros; a negative one begins with

@@ -9,8 +9,8 @@ use Rattle.xc_elements.specs.Doubles.{name_parts}
 use Rattle.xc_elements.specs.Namespaces.{has_double}
 use Rattle.xc_elements.specs.Trees.{is_named}
 use Rattle.xc_elements.specs.declared.nodes.Attribute.{Attribute}
-use Rattle.xc_frac.specs.Doubles.{has_same, are_same_texts}
-use Rattle.xc_model.proofs.ListsOfImages.{any_changed}
+use Rattle.xc_lists.specs.Doubles.{has_same, are_same_texts}
+use Rattle.xc_lists.proofs.ListsOfImages.{any_changed}
 
 bytes_eq-symm : (a b : List ℕ) → bytes_eq a b ≡ bytes_eq b a
 bytes_eq-symm a b = same_from_decides (bytes_eq a b) (bytes_eq b a) (bytes_eq-Decides a b) (Decides-like (bytes_eq b a) (λ e. sym e) (λ e. sym e) (bytes_eq-Decides b a))

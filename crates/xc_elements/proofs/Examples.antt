@@ -1,6 +1,6 @@
 -- Small documents, cut by the definitions.
 use Rattle.std.specs.Prelude.{◌≡◌, true, false, [], ◌∷◌, Some, None, codes, refl}
-use Rattle.xc_frac.specs.Characters.{is_character, is_name_start, is_name_char}
+use Rattle.xc_chars.specs.Characters.{is_character, is_name_start, is_name_char}
 use Rattle.xc_elements.specs.Fronts.{followed_by, give, refuse, one, by_next, exactly, run, up_to, repeated, sequence}
 use Rattle.xc_elements.specs.Items.{Declaration, Empty, plain_name, qualified_name, character_from, referent, reference, equals, quote, line_end, value_turn, value_until, attribute, tag_turn, tag_rest, tag, part, part_turn, declaration, instruction, markup, item}
 

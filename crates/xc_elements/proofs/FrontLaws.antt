@@ -3,7 +3,7 @@ use Rattle.std.proofs.Common.{◌≡◌, ℕ, ◌<◌, ◌≤◌, Bool, true, fa
 use Rattle.std.specs.Prelude.{option_map, is_some, ◌==◌}
 use Rattle.std.proofs.lemmas.List.{length-append}
 use Rattle.std.proofs.lemmas.Bool.{eqb-true}
-use Rattle.xc_frac.specs.Characters.{is_character}
+use Rattle.xc_chars.specs.Characters.{is_character}
 use Rattle.xc_elements.specs.Fronts.{Front, go_on, followed_by, give, give_some, refuse, one, by_next, past, exactly, put_before, run, up_to}
 
 -- both are empty, or both begin with one character

@@ -1,7 +1,7 @@
 -- Each item is decided by its own characters.
 use Rattle.std.proofs.Common.{ℕ, Bool, [], ◌∷◌, arith}
 use Rattle.std.specs.Prelude.{codes}
-use Rattle.xc_frac.specs.Characters.{is_name_char, is_space}
+use Rattle.xc_chars.specs.Characters.{is_name_char, is_space}
 use Rattle.xc_elements.specs.Fronts.{More, Last}
 use Rattle.xc_elements.specs.Items.{plain_name, qualified_name, referent, reference, equals, quote, line_end, value_turn_at, value_turn, value_until, attribute, tag_turn, tag_rest, tag, end_tag, is_inside, may_declare, part, part_turn, declaration, instruction_rest, instruction, comment, section, comment_or_section, markup, letter, item}
 use Rattle.xc_elements.proofs.FrontLaws.{Peeks, Ends, peeks_from_frees, peeks_from_ends, frees_from_ends, peeks_then_peeks, peeks_then_ends, ends_then_frees, give_frees, give_peeks, refuse_frees, refuse_ends, refuse_peeks, give_some_frees, one_ends, past_ends, past_peeks, if_ends, if_peeks, if_frees, by_next_ends, by_next_peeks, exactly_frees, exactly_ends, run_peeks, up_to_ends}

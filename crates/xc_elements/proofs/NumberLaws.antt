@@ -4,7 +4,7 @@ use Rattle.std.specs.Char.{digit_value}
 use Rattle.std.proofs.lemmas.Bool.Decides.{nat_tests}
 use Rattle.std.proofs.lemmas.Bool.{lt-ltb, le-ltb}
 use Rattle.std.proofs.Math.Nat.{mul-le-mul_left}
-use Rattle.xc_frac.specs.Characters.{is_character}
+use Rattle.xc_chars.specs.Characters.{is_character}
 use Rattle.xc_elements.specs.Items.{character_from, character_numbered, is_nil}
 
 pub beyond_characters : (n : ℕ) → 0x10FFFF < n → is_character n ≡ false

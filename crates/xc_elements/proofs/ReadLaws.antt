@@ -1,7 +1,7 @@
 -- A loop that goes over the characters that a front takes.
 use Rattle.std.proofs.Common.{◌≡◌, ℕ, Bool, true, false, List, [], ◌∷◌, ◌++◌, Option, Some, None, refl, sym, ap, ◌∙◌, append_assoc}
 use Rattle.std.specs.Prelude.{option_map}
-use Rattle.xc_frac.specs.Characters.{is_character}
+use Rattle.xc_chars.specs.Characters.{is_character}
 use Rattle.xc_elements.specs.Fronts.{Front, exactly, put_before, run, up_to}
 use Rattle.xc_elements.proofs.FrontLaws.{found}
 

@@ -2,7 +2,7 @@
 use Rattle.std.proofs.Common.{◌≡◌, ℕ, Bool, true, List, [], Option, Some, None, refl, sym, ap, ◌∙◌}
 use Rattle.std.specs.Prelude.{IsSome, option_map}
 use Rattle.std.specs.Option.{option_map_or}
-use Rattle.xc_frac.specs.Characters.{is_name_start, is_name_char}
+use Rattle.xc_chars.specs.Characters.{is_name_start, is_name_char}
 use Rattle.xc_elements.specs.Fronts.{go_on, followed_by, give, one, by_next, run, sequence, ending}
 use Rattle.xc_elements.specs.Items.{Pair, plain_name, value_turn, value_until, tag_rest}
 use Rattle.xc_elements.specs.Views.{value_at, attributes_at}

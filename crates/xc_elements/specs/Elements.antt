@@ -1,7 +1,7 @@
 -- The elements of a document, by its items.
 use Rattle.std.specs.Prelude.{ℕ, zero, suc, ◌+◌, ◌==◌, ◌&&◌, ◌||◌, nat_lt, nat_le, Bool, true, false, not, List, [], ◌∷◌, ◌++◌, length, map, Option, Some, None, unwrap_or, encode_utf8_all, if◌then◌else◌}
 use Rattle.std.specs.Str.{bytes_eq}
-use Rattle.xc_frac.specs.Characters.{is_space}
+use Rattle.xc_chars.specs.Characters.{is_space}
 use Rattle.xc_elements.specs.Items.{Name, Meaning, Start, Empty, End, Section, Letter, Reference}
 use Rattle.xc_elements.specs.Namespaces.{Tag, Binding, tag_of, declarations, element_space, expand, tag_lacks_space, has_double}
 use Rattle.xc_elements.specs.declared.nodes.Attribute.{Attribute}

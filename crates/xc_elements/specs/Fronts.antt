@@ -1,6 +1,6 @@
 -- What stands at the front of a text, and what follows it. A text is the list of its characters.
 use Rattle.std.specs.Prelude.{ℕ, zero, suc, Bool, ◌==◌, List, [], ◌∷◌, length, Option, Some, None, option_map, is_some, if◌then◌else◌}
-use Rattle.xc_frac.specs.Characters.{is_character}
+use Rattle.xc_chars.specs.Characters.{is_character}
 
 -- what a text may begin with: a value, and the text that follows it
 abbrev pub Front : Type 0 → Type 0

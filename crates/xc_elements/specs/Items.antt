@@ -1,7 +1,7 @@
 -- The items of which an XML document is made, each with what it means.
 use Rattle.std.specs.Prelude.{ℕ, ◌+◌, ◌*◌, Bool, true, false, not, ◌==◌, ◌&&◌, ◌||◌, nat_lt, List, [], ◌∷◌, map, Option, Some, None, is_some, codes, if◌then◌else◌}
 use Rattle.std.specs.Char.{digit_value, to_ascii_lowercase}
-use Rattle.xc_frac.specs.Characters.{is_character, is_space, is_name_start, is_name_char}
+use Rattle.xc_chars.specs.Characters.{is_character, is_space, is_name_start, is_name_char}
 use Rattle.xc_elements.specs.Fronts.{Front, ◌>>=◌, ◌>>◌, give, give_some, refuse, one, by_next, past, exactly, run, up_to, Turn, More, Last, sequence}
 
 -- a name as it is written: the prefix is empty where there is none

@@ -3,7 +3,7 @@ use Rattle.std.specs.Prelude.{ℕ, List, [], Bool, true, false, Option, Some, No
 use Rattle.std.specs.Option.{option_map_or}
 use Rattle.std.specs.Borrow.{Bor}
 use Rattle.std.specs.Str.{chars}
-use Rattle.xc_frac.specs.Characters.{is_space, is_name_char}
+use Rattle.xc_chars.specs.Characters.{is_space, is_name_char}
 use Rattle.xc_elements.specs.Fronts.{Turn, More, Last}
 use Rattle.xc_elements.specs.Items.{Name, Pair, Meaning, Declaration, Start, Empty, End, Comment, Instruction, Section, Letter, Reference, is_inside, value_until, tag_rest}
 use Rattle.xc_elements.specs.declared.attributes.WrittenAttribute.{WrittenAttribute}

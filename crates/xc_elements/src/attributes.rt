@@ -9,8 +9,8 @@ use crate::names::{QualifiedName, qualified_name};
 use crate::references::reference;
 use crate::texts::{Class, exactly, next_char, run};
 use std::alloc::{AllocError, Global};
-use xc_frac::Text;
-use xc_frac::characters::is_character;
+use xc_chars::characters::is_character;
+use xc_lists::Text;
 
 /// The value of an attribute as it is written.
 #[derive(Clone, Copy, Debug, PartialEq, Eq)]

@@ -2,11 +2,11 @@
 ghost use Rattle.std.specs.Prelude.{◌≡◌, IfOk, map};
 ghost use Rattle.xc_elements.specs.Doubles.{name_parts};
 ghost use Rattle.xc_elements.specs.Namespaces.{has_double};
-ghost use Rattle.xc_frac.specs.Doubles.{lent_texts};
+ghost use Rattle.xc_lists.specs.Doubles.{lent_texts};
 
 use crate::nodes::{Attribute, value_among};
 use std::alloc::Global;
-use xc_frac::{Memory, TextPair, has_equal_pairs};
+use xc_lists::{Memory, TextPair, has_equal_pairs};
 
 /// Up to so many attributes are compared in pairs, which takes no memory.
 const FEW: usize = 16;

@@ -16,7 +16,7 @@ use crate::scope::{Scope, declared_prefix, declares_default, declares_prefix};
 use crate::tags::{Tag, TagPart, tag_part};
 use crate::texts::copied;
 use std::alloc::{AllocError, Global};
-use xc_frac::{Items, Text};
+use xc_lists::{Items, Text};
 
 /// Brings what a tag declares into scope.
 pub(crate) fn declare<'a>(

@@ -9,7 +9,7 @@ use crate::names::{QualifiedName, plain_name};
 use crate::references::reference;
 use crate::tags::{Tag, end_tag, tag_at};
 use crate::texts::{exactly, next_char, spells, spells_in_any_case, up_to};
-use xc_frac::characters::{is_character, is_space};
+use xc_chars::characters::{is_character, is_space};
 
 /// An item of a document.
 #[derive(Clone, Copy, Debug, PartialEq, Eq)]

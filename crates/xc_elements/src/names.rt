@@ -6,7 +6,7 @@ ghost use Rattle.xc_elements.specs.Items.{plain_name, qualified_name};
 ghost use Rattle.xc_elements.specs.Views.{lent, at_front, name_view};
 
 use crate::texts::{Class, next_char, run, same_text};
-use xc_frac::characters::is_name_start;
+use xc_chars::characters::is_name_start;
 
 /// A name of a tag or an attribute as it is written: two plain names joined by a colon, or one alone.
 #[derive(Clone, Copy, Debug, PartialEq, Eq)]

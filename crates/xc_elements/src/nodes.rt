@@ -3,7 +3,7 @@ ghost use Rattle.std.specs.Prelude.{◌≡◌, ◌&&◌, option_map};
 ghost use Rattle.std.specs.Str.{bytes_eq};
 ghost use Rattle.xc_elements.specs.Trees.{is_named, value_among};
 
-use xc_frac::{Items, Text};
+use xc_lists::{Items, Text};
 
 /// An attribute of an element, by its expanded name.
 ///

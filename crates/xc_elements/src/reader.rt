@@ -15,8 +15,8 @@ use crate::refusal::Refusal;
 use crate::scope::Scope;
 use crate::tags::Tag;
 use std::alloc::Global;
-use xc_frac::Text;
-use xc_frac::characters::is_space;
+use xc_chars::characters::is_space;
+use xc_lists::Text;
 
 /// How many elements may be open.
 const DEPTH_LIMIT: usize = 127;

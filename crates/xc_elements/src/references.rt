@@ -1,13 +1,13 @@
 // References to characters.
 ghost use Rattle.std.specs.Prelude.{◌≡◌, ◌≤◌, option_map, if◌then◌else◌};
 ghost use Rattle.std.specs.Str.{chars};
-ghost use Rattle.xc_frac.specs.Characters.{is_character};
+ghost use Rattle.xc_chars.specs.Characters.{is_character};
 ghost use Rattle.xc_elements.specs.Fronts.{one};
 ghost use Rattle.xc_elements.specs.Items.{character_numbered, character_by_mark, character_by_hash, referent, reference};
 ghost use Rattle.xc_elements.specs.Views.{at_front};
 
 use crate::texts::{is_nothing, next_char, spells, up_to};
-use xc_frac::characters::is_character;
+use xc_chars::characters::is_character;
 
 /// The character that a reference names, of which the ampersand has been read, and the text behind the reference.
 #[tactic(auto, unfolding(crate::specs::Fronts::followed_by, crate::specs::Fronts::give, crate::specs::Fronts::refuse, crate::specs::Items::reference))]
@@ -91,7 +91,7 @@ fn character_numbered(base: u32, digits: &str) -> Option<char>
 }
 
 /// The character of this number, if a document may have it.
-#[tactic(auto, unfolding(xc_frac::specs::Characters::is_character))]
+#[tactic(auto, unfolding(xc_chars::specs::Characters::is_character))]
 fn numbered(number: u32) -> Option<char>
     ensures { result ≡ (if is_character number then Some number else None) }
 {

@@ -52,13 +52,13 @@ impl<T: Drop> From<AllocFailed<T>> for Refusal {
     }
 }
 
-impl From<xc_frac::Memory> for Refusal {
+impl From<xc_lists::Memory> for Refusal {
     ghost use Rattle.std.specs.Prelude.{◌≡◌};
     ghost use Rattle.xc_elements.specs.declared.refusal.Refusal.TheVariants.{Memory};
 
     ghost from_gives = { λ _ refusal. refusal ≡ Memory };
 
-    fn from(_: xc_frac::Memory) -> Self {
+    fn from(_: xc_lists::Memory) -> Self {
         Refusal::Memory
     }
 }

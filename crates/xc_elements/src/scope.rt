@@ -12,7 +12,7 @@ use crate::trees::{DECLARATIONS_SPACE, XML_SPACE, not_empty};
 use std::alloc::{AllocError, Global};
 use std::collections::BTreeMap;
 use std::marker::Model;
-use xc_frac::Text;
+use xc_lists::Text;
 
 /// A prefix, or the empty one for the default, and the namespace that it is set to.
 #[derive(Drop)]

@@ -6,8 +6,8 @@ ghost use Rattle.xc_elements.specs.Items.{is_nil, spells, spells_in_any_case};
 ghost use Rattle.xc_elements.specs.Views.{lent, at_front, behind, is_in};
 
 use std::alloc::{AllocError, Global};
-use xc_frac::Text;
-use xc_frac::characters::{is_character, is_name_char, is_space};
+use xc_chars::characters::{is_character, is_name_char, is_space};
+use xc_lists::Text;
 
 /// A class of characters that may stand in a row.
 #[derive(Clone, Copy)]

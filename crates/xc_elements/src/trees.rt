@@ -4,7 +4,7 @@ ghost use Rattle.xc_elements.specs.Trees.{IsTree, path, attribute_of, first_decl
 
 use crate::nodes::{Node, value_among};
 use std::marker::Model;
-use xc_frac::Items;
+use xc_lists::Items;
 
 /// The namespace of the prefix `xml`.
 pub const XML_SPACE: &str = "http://www.w3.org/XML/1998/namespace";

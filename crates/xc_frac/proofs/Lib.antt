@@ -2,10 +2,7 @@ pub mod Answered
 pub mod ClearedTerms
 pub mod Compared
 pub mod DeltaOrder
-pub mod EqualPairs
-pub mod FirstPlaces
 pub mod Inverses
 pub mod LeastCommons
 pub mod LowestTerms
 pub mod Orders
-pub mod WhiteSpace

@@ -1,9 +1,4 @@
-pub mod Characters
 pub mod Cleared
-pub mod Doubles
-pub mod Firsts
 pub mod Laws
-pub mod Lending
 pub mod Parts
 pub mod Passes
-pub mod Trimmed

@@ -1,12 +1,8 @@
-pub mod Anys
 pub mod Arithmetic
 pub mod Gauss
 pub mod Integers
 pub mod LeastCommon
-pub mod ListsOfImages
 pub mod Lowest
 pub mod Numbers
 pub mod Over
-pub mod Positions
 pub mod Quotients
-pub mod Ranges

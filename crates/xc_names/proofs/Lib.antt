@@ -2,5 +2,4 @@ pub mod Bound
 pub mod Found
 pub mod NameSets
 pub mod Numbered
-pub mod Splits
 pub mod TextMaps

@@ -4,7 +4,7 @@ use Rattle.std.specs.BTreeSet.{insert_key}
 use Rattle.std.specs.Cmp.{ranked}
 use Rattle.std.specs.Ordering.{nat_cmp}
 use Rattle.std.specs.declared.cmp.Ordering.TheVariants.{Equal}
-use Rattle.xc_model.proofs.Anys.{any_put_in}
+use Rattle.xc_lists.proofs.Anys.{any_put_in}
 use Rattle.xc_names.specs.NameSets.{is_among}
 
 -- a number that is put in is one more

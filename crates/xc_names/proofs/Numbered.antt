@@ -7,7 +7,7 @@ use Rattle.std.proofs.lemmas.Bool.{cases_lt}
 use Rattle.std.proofs.lemmas.Slice.Eq.{bytes_eq-Decides}
 use Rattle.std.proofs.lemmas.Cmp.{nat_list_eq_equiv}
 use Rattle.std.specs.Str.{bytes_eq}
-use Rattle.xc_model.proofs.Positions.{position_from-stays, position_from-push}
+use Rattle.xc_lists.proofs.Positions.{position_from-stays, position_from-push}
 use Rattle.std.proofs.lemmas.Bool.{and_parts}
 use Rattle.xc_names.specs.Names.{name_of, is_named, number_of, AreNumbered, KeepsNumbers}
 use Rattle.xc_names.specs.declared.expanded.Expanded.{Expanded}

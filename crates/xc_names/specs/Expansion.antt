@@ -2,7 +2,7 @@
 use Rattle.std.specs.Prelude.{◌≡◌, ℕ, List, Some, IsSomeAnd, IsNone}
 use Rattle.std.specs.FinMap.{get}
 use Rattle.xc_names.specs.Names.{number_of, with_name}
-use Rattle.xc_names.specs.PlainNames.{split}
+use Rattle.xc_chars.specs.PlainNames.{split}
 use Rattle.xc_names.specs.Prefixes.{Bindings}
 use Rattle.xc_names.specs.declared.expanded.Expanded.{Expanded}
 

@@ -1,13 +1,7 @@
 -- What follows from the definitions, in the words of names.
 use Rattle.std.specs.Prelude.{◌≡◌, ◌↔◌, ℕ, List, Some, IsSome, slice_get}
-use Rattle.std.specs.Str.{IsUtf8}
 use Rattle.xc_names.specs.Names.{name_of, number_of, AreNumbered}
-use Rattle.xc_names.specs.PlainNames.{IsJoined, split}
 use Rattle.xc_names.specs.declared.expanded.Expanded.{Expanded}
-
--- a text splits into a prefix and a local part exactly where it is these two plain names, joined by a colon
-abbrev pub SplitsWhereJoined : Type 0
-SplitsWhereJoined = (text prefix local : List ℕ) → IsUtf8 text → (split text ≡ Some (prefix, local)) ↔ IsJoined text prefix local
 
 -- two names, one of which is in a list, have one number exactly where they are equal
 abbrev pub NumbersTellNames : Type 0

@@ -3,5 +3,4 @@ pub mod Laws
 pub mod NameSets
 pub mod Names
 pub mod Numbers
-pub mod PlainNames
 pub mod Prefixes

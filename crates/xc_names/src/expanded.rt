@@ -2,7 +2,7 @@ ghost use Rattle.std.specs.Prelude.{◌≡◌, IfOk};
 ghost use Rattle.xc_names.specs.Names.{name_of, is_named};
 
 use std::alloc::Global;
-use xc_frac::{Memory, Text};
+use xc_lists::{Memory, Text};
 
 /// An expanded name: the URI of a namespace, empty where the name has none, and a local part
 /// (Namespaces in XML 1.0, section 2.1).

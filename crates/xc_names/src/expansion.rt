@@ -2,14 +2,14 @@
 ghost use Rattle.std.specs.Prelude.{◌≡◌, ◌↔◌, IfOk, OnErr, IsNone, IsErrOf};
 ghost use Rattle.xc_names.specs.Expansion.{HasUnboundPrefix, Expands};
 ghost use Rattle.xc_names.specs.Names.{KeepsNumbers};
-ghost use Rattle.xc_names.specs.PlainNames.{split};
+ghost use Rattle.xc_chars.specs.PlainNames.{split};
 ghost use Rattle.xc_names.specs.declared.expansion.NameFault.TheVariants.{Memory};
 
 use crate::expanded::NameId;
 use crate::names::Names;
-use crate::plain_names::split;
 use crate::prefixes::Prefixes;
-use xc_frac::Memory;
+use xc_chars::split;
+use xc_lists::Memory;
 
 /// Why a text has no number.
 #[derive(Clone, Copy, Debug, PartialEq, Eq)]

@@ -1,12 +1,7 @@
 //! What the definitions of this crate say, in the words of names.
 //!
 //! Each function has an empty body: its contract is the law.
-ghost use Rattle.xc_names.specs.Laws.{SplitsWhereJoined, NumbersTellNames, NumbersArePlaces};
-
-/// A text splits exactly where it is two plain names joined by a colon, so in one way at most.
-pub fn splits_where_joined()
-    ensures { SplitsWhereJoined }
-{}
+ghost use Rattle.xc_names.specs.Laws.{NumbersTellNames, NumbersArePlaces};
 
 /// Two names, one of which is in a list, have one number exactly where they are equal.
 pub fn numbers_tell_names()

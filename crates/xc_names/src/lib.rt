@@ -7,7 +7,6 @@ pub mod laws;
 mod name_set;
 mod names;
 mod numbers;
-mod plain_names;
 mod prefixes;
 #[cfg(test)]
 mod tests;
@@ -17,6 +16,6 @@ pub use expanded::{Expanded, NameId};
 pub use expansion::{NameFault, expand};
 pub use name_set::NameSet;
 pub use names::Names;
-pub use plain_names::{around_colon, is_plain_name, split};
 pub use prefixes::Prefixes;
 pub use wanted::Wanted;
+pub use xc_chars::{around_colon, is_plain_name, split};

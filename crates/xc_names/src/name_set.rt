@@ -8,7 +8,7 @@ use crate::expanded::NameId;
 use std::alloc::Global;
 use std::collections::BTreeSet;
 use std::marker::Model;
-use xc_frac::Memory;
+use xc_lists::Memory;
 
 /// Numbers of names, each once.
 #[derive(Debug, Drop)]

@@ -6,7 +6,7 @@ use crate::numbers::{Spaces, note, number_in};
 use indexmap::IndexMap;
 use std::alloc::Global;
 use std::marker::Model;
-use xc_frac::Memory;
+use xc_lists::Memory;
 
 /// Expanded names, each with a number that never changes: its place in the list.
 ///

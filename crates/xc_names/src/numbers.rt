@@ -8,7 +8,7 @@ ghost use Rattle.xc_names.specs.Numbers.{number_in};
 
 use indexmap::IndexMap;
 use std::alloc::Global;
-use xc_frac::Memory;
+use xc_lists::Memory;
 
 pub(crate) type Locals = IndexMap<String, u64>;
 

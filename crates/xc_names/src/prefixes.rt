@@ -4,7 +4,7 @@ ghost use Rattle.std.specs.FinMap as map;
 use indexmap::IndexMap;
 use std::alloc::Global;
 use std::marker::Model;
-use xc_frac::Memory;
+use xc_lists::Memory;
 
 /// What prefixes stand for: a map from prefixes to the URIs of namespaces.
 #[derive(Drop)]

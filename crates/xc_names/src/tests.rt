@@ -1,49 +1,6 @@
-use crate::{
-    Expanded, NameFault, NameId, NameSet, Names, Prefixes, around_colon, expand, is_plain_name,
-    split,
-};
+use crate::{Expanded, NameFault, NameId, NameSet, Names, Prefixes, expand};
 use std::test::Fail;
-use xc_frac::Memory;
-
-#[test]
-fn texts_split_at_one_colon(rt: HostRuntime) -> Result<(), Fail> {
-    for (text, parts) in [
-        ("eg:T", Some(("eg", "T"))),
-        ("_.-0:\u{E9}\u{B7}", Some(("_.-0", "\u{E9}\u{B7}"))),
-        ("a:b:c", None),
-        ("a::b", None),
-        (":b", None),
-        ("a:", None),
-        (":", None),
-        ("a", None),
-        ("", None),
-        ("1a:b", None),
-        ("a:-b", None),
-        ("a b:c", None),
-        (" a:b", None),
-        ("a:b*c", None),
-    ] {
-        assert_eq!(rt; split(text), parts);
-    }
-    for (text, parts) in [
-        ("e:0001", Some(("e", "0001"))),
-        ("a:b:c", Some(("a", "b:c"))),
-        (":", Some(("", ""))),
-        ("a", None),
-    ] {
-        assert_eq!(rt; around_colon(text), parts);
-    }
-    for (text, plain) in [
-        ("a", true),
-        ("a.b-c", true),
-        ("", false),
-        ("a:b", false),
-        ("-a", false),
-    ] {
-        assert_eq!(rt; is_plain_name(text), plain);
-    }
-    Ok(())
-}
+use xc_lists::Memory;
 
 #[test]
 fn equal_names_have_one_number(rt: HostRuntime) -> Result<(), Fail> {

@@ -1,5 +1,5 @@
 use crate::expanded::NameId;
-use xc_frac::Items;
+use xc_lists::Items;
 
 /// The concepts that a taxonomy asks for: the ends of its chosen arcs, and the dimensions whose
 /// values are typed. Each list has every number once, ascending.

@@ -9,8 +9,8 @@ use Rattle.std.specs.Cmp.{tied_then}
 use Rattle.std.specs.List.{position_or_len}
 use Rattle.std.specs.Ordering.{is_eq, nat_cmp}
 use Rattle.std.specs.Prelude.{All}
-use Rattle.xc_frac.specs.Firsts.{first_places, first_or_len}
-use Rattle.xc_model.proofs.Positions.{position_or_len_congr, position_or_len-map}
+use Rattle.xc_lists.specs.Firsts.{first_places, first_or_len}
+use Rattle.xc_lists.proofs.Positions.{position_or_len_congr, position_or_len-map}
 use Rattle.xc_points.proofs.Together.{same_together, same_refl}
 use Rattle.xc_points.specs.Gathered.{is_together}
 use Rattle.xc_points.specs.Members.{place_of, firsts_of}

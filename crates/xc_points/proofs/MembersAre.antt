@@ -8,7 +8,7 @@ use Rattle.std.proofs.lemmas.List.Folds.{list_any_at, Any-from_list_any}
 use Rattle.std.proofs.lemmas.List.Sums.{prefix_len_passes, prefix_len_stops}
 use Rattle.std.proofs.lemmas.Option.{slice_get_within, slice_get-get_or, get_or_from_slice_get}
 use Rattle.std.specs.List.{filter, filter_map, position_or_len, range_with_len, list_any}
-use Rattle.xc_model.proofs.Positions.{position_or_len_congr}
+use Rattle.xc_lists.proofs.Positions.{position_or_len_congr}
 use Rattle.std.specs.Option.{option_and_then, option_map_or}
 use Rattle.std.specs.Prelude.{All}
 use Rattle.xc_points.proofs.FilteredRanges.{IsKept, kept_some, filter_none, found_of_made}

@@ -14,7 +14,7 @@ use Rattle.std.specs.Prelude.{All}
 use Rattle.std.specs.declared.cmp.Ordering.TheVariants.{Less}
 use Rattle.xc_interval.specs.declared.interval.Interval.{Interval}
 use Rattle.xc_interval.specs.declared.mode.Mode.{Mode}
-use Rattle.xc_model.proofs.Positions.{position_or_len_congr}
+use Rattle.xc_lists.proofs.Positions.{position_or_len_congr}
 use Rattle.xc_model.specs.Ratio.{Ratio}
 use Rattle.xc_points.proofs.FilteredRanges.{IsKept, kept_of_any, any_of_kept, kept_some, found_at, place_of_found, FindsAlikeOnce, found_once}
 use Rattle.xc_points.proofs.FirstFacts.{at_most, fact_at}

@@ -9,8 +9,9 @@ use crate::intervals::intervals_of;
 use crate::ranges::range_of;
 use crate::types::{Point, Points};
 use std::alloc::Global;
-use xc_frac::{Frac, Memory};
+use xc_frac::Frac;
 use xc_interval::{Interval, Mode};
+use xc_lists::Memory;
 use xc_report::{Fact, Report};
 
 /// The data points of a report's facts, by first fact: each with exactly its facts, and with what all of them

@@ -4,7 +4,7 @@ ghost use Rattle.xc_points.specs.Members.{place_of, firsts_of, members_by};
 
 use std::alloc::Global;
 use std::marker::Model;
-use xc_frac::{Firsts, Items, Memory};
+use xc_lists::{Firsts, Items, Memory};
 use xc_names::NameId;
 use xc_report::Fact;
 

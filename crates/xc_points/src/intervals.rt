@@ -6,9 +6,10 @@ ghost use Rattle.xc_points.specs.Values.{AreEndsOfNumber};
 
 use std::alloc::Global;
 use xc_decimal::Decimal;
+use xc_frac::Frac;
 use xc_frac::laws::lowest_terms;
-use xc_frac::{Frac, Memory};
 use xc_interval::{Interval, Mode, reported};
+use xc_lists::Memory;
 use xc_report::{Fact, Reading};
 
 // How many decimals there may be, on either side of the point, for an interval to be made.

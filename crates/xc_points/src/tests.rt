@@ -5,8 +5,9 @@ use std::alloc::Global;
 use std::process::Abort;
 use std::test::Fail;
 use xc_decimal::read_decimal;
-use xc_frac::{Frac, Items, Text};
+use xc_frac::Frac;
 use xc_interval::{End, Interval, Mode, Range};
+use xc_lists::{Items, Text};
 use xc_names::NameId;
 use xc_report::{Fact, Reading, Report};
 

@@ -3,8 +3,9 @@ ghost use Rattle.std.specs.Prelude.{◌≡◌};
 ghost use Rattle.xc_points.specs.Kept.{AreKept};
 
 use std::marker::Model;
-use xc_frac::{Frac, Items};
+use xc_frac::Frac;
 use xc_interval::{Interval, Range};
+use xc_lists::Items;
 use xc_names::NameId;
 
 /// A data point: a concept with a key, for which at least one fact is reported.

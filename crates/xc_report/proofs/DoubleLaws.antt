@@ -1,8 +1,8 @@
 -- Dimensions of taxonomies of which two have one expanded name.
 use Rattle.std.proofs.Common.{◌≡◌, ℕ, Bool, false, ◌||◌, List, [], ◌∷◌, refl, ap, ◌∙◌}
 use Rattle.std.specs.List.{list_any, filter_map, cons_option}
-use Rattle.xc_frac.specs.Doubles.{has_same, are_same_texts}
-use Rattle.xc_model.proofs.Anys.{no_one}
+use Rattle.xc_lists.specs.Doubles.{has_same, are_same_texts}
+use Rattle.xc_lists.proofs.Anys.{no_one}
 use Rattle.xc_names.specs.declared.expanded.Expanded.{Expanded}
 use Rattle.xc_report.specs.Doubles.{name_parts, part_name}
 use Rattle.xc_report.specs.Stated.{is_same_name, has_twice}

@@ -3,7 +3,7 @@ use Rattle.std.specs.Prelude.{◌≡◌, ℕ, List, [], ◌∷◌, true, false, 
 use Rattle.std.proofs.Common.{rules}
 use Rattle.std.specs.FinMap.{get, gets}
 use Rattle.std.specs.Str.{chars}
-use Rattle.xc_frac.specs.Characters.{is_name_start, is_name_char}
+use Rattle.xc_chars.specs.Characters.{is_name_start, is_name_char}
 use Rattle.serde_json.specs.Data.{Data, null, boolean, string, object, Members, no_members, member}
 use Rattle.xc_names.specs.Names.{name_of}
 use Rattle.xc_names.specs.Prefixes.{Bindings}

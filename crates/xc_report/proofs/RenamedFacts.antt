@@ -16,7 +16,7 @@ use Rattle.xc_report.specs.declared.reports.ReportFault.{ReportFault}
 use Rattle.xc_report.specs.declared.stated.DimensionName.TheVariants as dimension
 use Rattle.xc_report.specs.declared.stated.StatedFact.{StatedFact}
 use Rattle.xc_report.specs.declared.stated.StatedPart.{StatedPart}
-use Rattle.xc_model.proofs.ListsOfImages.{filter_map_changed}
+use Rattle.xc_lists.proofs.ListsOfImages.{filter_map_changed}
 use Rattle.xc_report.specs.Renamed.{renamed_id, renamed_stated, renamed_read, IsKnownAs}
 
 -- ---- the parts of keys

@@ -2,7 +2,7 @@
 use Rattle.std.specs.Prelude.{ℕ, List, Option, option_map, option_and_then}
 use Rattle.std.specs.FinMap.{get}
 use Rattle.xc_names.specs.Names.{name_of}
-use Rattle.xc_names.specs.PlainNames.{around_colon, split}
+use Rattle.xc_chars.specs.PlainNames.{around_colon, split}
 use Rattle.xc_names.specs.Prefixes.{Bindings}
 use Rattle.xc_names.specs.declared.expanded.Expanded.{Expanded}
 

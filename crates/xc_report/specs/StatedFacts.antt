@@ -5,7 +5,7 @@ use Rattle.xc_decimal.specs.Numbers.{reading}
 use Rattle.xc_decimal.specs.Shortest.{Shortest}
 use Rattle.xc_decimal.specs.declared.decimal.DecimalFault.{DecimalFault}
 use Rattle.xc_decimal.specs.declared.decimal.DecimalFault.TheVariants as unread
-use Rattle.xc_frac.specs.Trimmed.{trimmed}
+use Rattle.xc_chars.specs.Trimmed.{trimmed}
 use Rattle.serde_json.specs.Data.{Data, Members}
 use Rattle.serde_json.specs.Find.{get, as_null, as_str, as_number, as_i64, as_object}
 use Rattle.xc_names.specs.declared.expanded.Expanded.{Expanded}

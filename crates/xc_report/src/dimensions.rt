@@ -5,7 +5,7 @@ ghost use Rattle.xc_report.specs.Dimensions.{IsAscending};
 use std::alloc::Global;
 use std::collections::BTreeMap;
 use std::marker::Model;
-use xc_frac::{Items, Memory, Text};
+use xc_lists::{Items, Memory, Text};
 use xc_names::NameId;
 
 /// A dimension of a fact beside its concept: one of the five that xBRL-JSON 1.0 names, or one of a

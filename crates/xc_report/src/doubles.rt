@@ -1,13 +1,13 @@
 // Dimensions of taxonomies of which two have one expanded name.
 ghost use Rattle.std.specs.Prelude.{◌≡◌, IfOk, map};
 ghost use Rattle.std.specs.List.{list_any, filter_map};
-ghost use Rattle.xc_frac.specs.Doubles.{lent_texts};
+ghost use Rattle.xc_lists.specs.Doubles.{lent_texts};
 ghost use Rattle.xc_report.specs.Doubles.{part_name};
 ghost use Rattle.xc_report.specs.Stated.{is_same_name, has_twice};
 
 use crate::stated::{DimensionName, StatedPart};
 use std::alloc::Global;
-use xc_frac::{Memory, TextPair, has_equal_pairs};
+use xc_lists::{Memory, TextPair, has_equal_pairs};
 
 /// Up to so many parts are compared in pairs, which takes no memory.
 const FEW: usize = 16;

@@ -22,7 +22,7 @@ use crate::stated::StatedFact;
 use crate::stated_facts::stated_facts;
 use serde_json::{Map, Value};
 use std::alloc::Global;
-use xc_frac::Memory;
+use xc_lists::Memory;
 use xc_names::{Names, Prefixes, Wanted};
 
 /// A report whose parts are as they have to be: what its prefixes stand for, and its facts, which

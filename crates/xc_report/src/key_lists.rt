@@ -7,7 +7,7 @@ use crate::dimensions::Key;
 use indexmap::IndexSet;
 use std::alloc::Global;
 use std::marker::Model;
-use xc_frac::Memory;
+use xc_lists::Memory;
 
 /// Keys, of which no two are equal, each with a number: its place in the list.
 #[derive(Drop)]

@@ -5,7 +5,7 @@ ghost use Rattle.xc_report.specs.Reads.{known_view};
 ghost use Rattle.xc_report.specs.Wanted.{known_of, listed, node_of, is_typed};
 
 use std::alloc::Global;
-use xc_frac::{Firsts, Memory};
+use xc_lists::{Firsts, Memory};
 use xc_names::{NameId, Names, Prefixes, Wanted};
 
 /// What prefixes stand for, the names that have numbers, and which of these are wanted.

@@ -13,7 +13,7 @@ use crate::reports::{Fact, Reading, Report};
 use crate::stated::{DimensionName, StatedFact, StatedPart, StatedValue};
 use std::alloc::Global;
 use std::collections::BTreeMap;
-use xc_frac::{Items, Memory, Text};
+use xc_lists::{Items, Memory, Text};
 use xc_names::{Expanded, NameId, Names};
 
 /// A fact with its key, which has no number yet.

@@ -1,11 +1,11 @@
 // Periods in their normal form.
 ghost use Rattle.std.specs.Prelude.{◌≡◌, ◌++◌, codes, option_map, IfOk, OnOk, string_bytes};
-ghost use Rattle.xc_names.specs.PlainNames.{pair_view};
+ghost use Rattle.xc_chars.specs.PlainNames.{pair_view};
 ghost use Rattle.xc_report.specs.Periods.{around_slash, is_date, moment, normal_period};
 
 use crate::forms::has_form;
 use std::alloc::Global;
-use xc_frac::{Memory, Text};
+use xc_lists::{Memory, Text};
 
 // How a date is written, with `d` for each digit.
 const DATE: &str = "dddd-dd-dd";

@@ -3,7 +3,8 @@ ghost use Rattle.std.specs.Prelude.{◌≡◌, option_map};
 ghost use Rattle.xc_report.specs.Prefixed.{expanded, expanded_loosely, bound_name};
 ghost use Rattle.xc_report.specs.Reads.{lent_name};
 
-use xc_names::{Prefixes, around_colon, split};
+use xc_chars::{around_colon, split};
+use xc_names::Prefixes;
 
 /// The name of two plain names joined by a colon, whose prefix is declared.
 pub fn expanded<'a>(prefixes: &'a Prefixes, text: &'a str) -> Option<(&'a str, &'a str)>

@@ -5,7 +5,7 @@ ghost use Rattle.xc_report.specs.declared.reports.ReportFault.TheVariants as Rep
 use crate::dimensions::Key;
 use std::alloc::{AllocError, AllocFailed};
 use xc_decimal::Decimal;
-use xc_frac::{Items, Memory, Text};
+use xc_lists::{Items, Memory, Text};
 use xc_names::NameId;
 
 /// The value of a fact.

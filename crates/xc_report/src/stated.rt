@@ -4,7 +4,7 @@ ghost use Rattle.xc_report.specs.declared.stated.Refusal.TheVariants as Refusal;
 
 use crate::reports::Reading;
 use std::alloc::{AllocError, AllocFailed};
-use xc_frac::{Items, Memory, Text};
+use xc_lists::{Items, Memory, Text};
 use xc_names::{Expanded, NameId};
 
 /// A dimension as a report names it.

@@ -13,8 +13,9 @@ use crate::stated::{Refusal, StatedFact, StatedPart};
 use crate::stated_parts::parts_of;
 use serde_json::{Map, Value};
 use std::alloc::Global;
+use xc_chars::trimmed;
 use xc_decimal::{DecimalFault, read_decimal};
-use xc_frac::{Items, Text, trimmed};
+use xc_lists::{Items, Text};
 use xc_names::{NameId, Prefixes};
 
 /// The facts of members that are not left out, in the order of their ids as bytes, or the first fault

@@ -15,7 +15,7 @@ use crate::stated::{DimensionName, Refusal, StatedPart, StatedValue};
 use crate::units::{is_pure_alone, unit};
 use serde_json::{Map, Value};
 use std::alloc::Global;
-use xc_frac::{Items, Memory, Text};
+use xc_lists::{Items, Memory, Text};
 use xc_names::{Expanded, Prefixes};
 
 /// The parts of a fact's key, in the order of their names; `Bad` where a member is no dimension that a

@@ -1,7 +1,7 @@
 use crate::{DimValue, Dimension, Key, Keys, Member, Reading, Report, ReportFault, open_report};
 use std::alloc::Global;
 use std::test::Fail;
-use xc_frac::Items;
+use xc_lists::Items;
 use xc_names::{NameId, Names, Wanted};
 
 // The names eg:T and eg:A are nodes, eg:D is a typed dimension; their numbers are 0, 1 and 2.

@@ -1,7 +1,7 @@
 // Units: products of measures, and quotients of two.
 ghost use Rattle.std.specs.Prelude.{◌≡◌, option_map, IfOk};
 ghost use Rattle.xc_names.specs.Names.{name_of};
-ghost use Rattle.xc_names.specs.PlainNames.{pair_view};
+ghost use Rattle.xc_chars.specs.PlainNames.{pair_view};
 ghost use Rattle.xc_report.specs.Prefixed.{expanded};
 ghost use Rattle.xc_report.specs.Reads.{Reads};
 ghost use Rattle.xc_report.specs.Units.{is_star, is_open, is_close, around, product, behind_open, before_close, single, side, unit, is_pure, is_pure_alone};
@@ -10,7 +10,7 @@ use crate::periods::around_slash;
 use crate::prefixed::expanded;
 use crate::stated::Refusal;
 use std::alloc::Global;
-use xc_frac::Items;
+use xc_lists::Items;
 use xc_names::{Expanded, Prefixes};
 
 // The namespace of XBRL 2.1.

@@ -5,9 +5,9 @@ use Rattle.std.specs.FinMap.{get}
 use Rattle.std.specs.List.{zip}
 use Rattle.std.specs.Option.{option_or}
 use Rattle.xc_calc.specs.declared.arc.Network.{Network}
-use Rattle.xc_model.specs.Places.{first_given}
+use Rattle.xc_lists.specs.Places.{first_given}
 use Rattle.xc_names.specs.Names.{number_of, KeepsNumbers}
-use Rattle.xc_names.specs.PlainNames.{split}
+use Rattle.xc_chars.specs.PlainNames.{split}
 use Rattle.xc_names.specs.Prefixes.{Bindings}
 use Rattle.xc_names.specs.declared.expanded.Expanded.{Expanded}
 use Rattle.xc_names.specs.declared.expanded.NameId.{NameId}

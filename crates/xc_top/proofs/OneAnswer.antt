@@ -3,7 +3,7 @@ use Rattle.std.proofs.Common.{◌≡◌, ℕ, List, [], ◌∷◌, map, Option, 
 use Rattle.std.specs.List.{zip}
 use Rattle.xc_calc.specs.Laws as calc
 use Rattle.xc_calc.specs.declared.arc.Network.{Network}
-use Rattle.xc_model.specs.Places.{first_given}
+use Rattle.xc_lists.specs.Places.{first_given}
 use Rattle.xc_elements.specs.DocumentTrees.{OneTree, TreeOrFault, OneFirstFault}
 use Rattle.xc_io.specs.Shelf.{Files}
 use Rattle.xc_names.specs.declared.expanded.Expanded.{Expanded}

@@ -5,10 +5,10 @@ use Rattle.std.specs.List.{position_from, enumerate_from}
 use Rattle.xc_bind.specs.Bindings.{is_point_of, number_of, leads_from, arcs_from, term_with, term_of, terms_of, with_terms, binding_of, bindings_in, bindings_of}
 use Rattle.xc_calc.specs.declared.arc.Arc.{Arc}
 use Rattle.xc_calc.specs.declared.arc.Network.{Network}
-use Rattle.xc_model.proofs.Positions.{position_from-map}
+use Rattle.xc_lists.proofs.Positions.{position_from-map}
 use Rattle.xc_names.specs.declared.expanded.NameId.{NameId}
 use Rattle.xc_points.specs.declared.types.Point.{Point}
-use Rattle.xc_model.proofs.ListsOfImages.{filter-map, filter_map-map, behind_number, enumerate_from-map}
+use Rattle.xc_lists.proofs.ListsOfImages.{filter-map, filter_map-map, behind_number, enumerate_from-map}
 use Rattle.xc_report.specs.Renamed.{renamed_id}
 use Rattle.xc_top.proofs.Renaming.{IsInjective, same_number, renamed_arc, renamed_network, renamed_point}
 

@@ -14,7 +14,7 @@ use Rattle.xc_lines.specs.Findings.{role_of, first_id, first_id_at, is_empty_ran
 use Rattle.xc_points.specs.Laws.{HasOneRange}
 use Rattle.xc_points.specs.declared.types.Point.{Point}
 use Rattle.xc_report.specs.declared.reports.Fact.{Fact}
-use Rattle.xc_model.proofs.ListsOfImages.{any_changed, filter-map, behind_number, enumerate_from-map}
+use Rattle.xc_lists.proofs.ListsOfImages.{any_changed, filter-map, behind_number, enumerate_from-map}
 use Rattle.xc_top.proofs.RenamedBindings.{bindings_renamed}
 use Rattle.xc_top.proofs.RenamedPoints.{points_renamed}
 use Rattle.xc_top.proofs.RenamedVerdicts.{one_verdicts}

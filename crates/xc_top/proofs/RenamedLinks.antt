@@ -19,7 +19,7 @@ use Rattle.xc_calc.specs.declared.fault.LinkFault.TheVariants.{Unresolved}
 use Rattle.xc_concepts.specs.Chains.{kind_from, has_number, concept_numbered, kind_of}
 use Rattle.xc_concepts.specs.Declarations.{concepts_in, types_in}
 use Rattle.xc_concepts.specs.Held.{has_id, schema_of, number_by_id}
-use Rattle.xc_model.specs.Places.{places, first_given}
+use Rattle.xc_lists.specs.Places.{places, first_given}
 use Rattle.xc_concepts.specs.declared.kind.Kind.{Kind}
 use Rattle.xc_concepts.specs.declared.kind.Kind.TheVariants.{Other, Unknown}
 use Rattle.xc_concepts.specs.declared.schema.Concept.{Concept}
@@ -27,7 +27,7 @@ use Rattle.xc_concepts.specs.declared.schema.NamedType.{NamedType}
 use Rattle.xc_concepts.specs.declared.schema.Schema.{Schema}
 use Rattle.xc_elements.specs.declared.nodes.Node.{Node}
 use Rattle.xc_names.specs.declared.expanded.NameId.{NameId}
-use Rattle.xc_model.proofs.ListsOfImages.{find_changed, filter_map_changed, flat_map_changed}
+use Rattle.xc_lists.proofs.ListsOfImages.{find_changed, filter_map_changed, flat_map_changed}
 use Rattle.xc_top.proofs.RenamedSchemas.{concepts_renamed, types_renamed}
 use Rattle.xc_report.specs.Renamed.{renamed_id}
 use Rattle.xc_top.proofs.Renaming.{IsInjective, same_number, renamed_concept, renamed_schema, renamed_listed}

@@ -1,7 +1,7 @@
 -- The names of two lists have a renaming.
 use Rattle.std.proofs.Common.{◌≡◌, ◌+◌, ◌<◌, ◌==◌, ℕ, List, Bool, true, false, if◌then◌else◌, Option, Some, None, option_and_then, unwrap_or, is_some, length, slice_get, refl, sym, ap, ◌∙◌, eq-eqb, eqb-true, arith}
 use Rattle.std.proofs.lemmas.Option.{none-some, same_Some}
-use Rattle.xc_model.specs.Places.{is_place}
+use Rattle.xc_lists.specs.Places.{is_place}
 use Rattle.xc_names.proofs.Found.{number_within, at_number, numbers_tell_names}
 use Rattle.xc_names.specs.Names.{number_of}
 use Rattle.xc_names.specs.declared.expanded.Expanded.{Expanded}

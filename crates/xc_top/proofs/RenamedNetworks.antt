@@ -17,9 +17,9 @@ use Rattle.xc_calc.specs.declared.arc.Network.{Network}
 use Rattle.xc_concepts.specs.Declarations.{concepts_in}
 use Rattle.xc_concepts.specs.Held.{is_typed_as, is_typed, AreTyped}
 use Rattle.xc_names.specs.NameSets.{is_among}
-use Rattle.xc_model.specs.Places.{places}
+use Rattle.xc_lists.specs.Places.{places}
 use Rattle.xc_concepts.specs.declared.schema.Schema.{Schema}
-use Rattle.xc_model.proofs.ListsOfImages.{any_changed, filter_map_changed}
+use Rattle.xc_lists.proofs.ListsOfImages.{any_changed, filter_map_changed}
 use Rattle.xc_top.proofs.RenamedSchemas.{concepts_renamed}
 use Rattle.xc_top.proofs.Renaming.{IsInjective, same_number, renamed_concept, renamed_schema, renamed_arc, renamed_listed, renamed_network}
 

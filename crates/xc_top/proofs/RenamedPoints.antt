@@ -14,7 +14,7 @@ use Rattle.xc_points.specs.Kept.{Gathered}
 use Rattle.xc_points.specs.Laws.{HasOneRange}
 use Rattle.xc_points.specs.declared.types.Point.{Point}
 use Rattle.xc_report.specs.declared.reports.Fact.{Fact}
-use Rattle.xc_model.proofs.ListsOfImages.{any_changed, filter_map_changed, map_both}
+use Rattle.xc_lists.proofs.ListsOfImages.{any_changed, filter_map_changed, map_both}
 use Rattle.xc_report.specs.Renamed.{renamed_id, renamed_fact}
 use Rattle.xc_top.proofs.Renaming.{IsInjective, same_number, renamed_point}
 

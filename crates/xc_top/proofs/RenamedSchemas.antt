@@ -8,7 +8,7 @@ use Rattle.std.specs.Str.{bytes_eq}
 use Rattle.xc_calc.specs.Ends.{file_name}
 use Rattle.xc_concepts.specs.Declarations.{IsSchemaOf, declared_at, concepts_in, types_in}
 use Rattle.xc_concepts.specs.Held.{IsHeld, AreHeld}
-use Rattle.xc_model.specs.Places.{places, first_given, is_repeated}
+use Rattle.xc_lists.specs.Places.{places, first_given, is_repeated}
 use Rattle.xc_concepts.specs.Rules.{has_file, is_nameless, repeats_id, is_same_name}
 use Rattle.xc_concepts.specs.declared.fault.SchemaFault.{SchemaFault}
 use Rattle.xc_concepts.specs.declared.fault.SchemaFault.TheVariants.{SameFile, BadPrefix, SameId, SameConcept}

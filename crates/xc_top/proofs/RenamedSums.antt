@@ -4,13 +4,13 @@ use Rattle.std.proofs.lemmas.Option.{none-some}
 use Rattle.std.specs.FinMap.{get}
 use Rattle.std.specs.List.{zip}
 use Rattle.xc_names.specs.Names.{number_of}
-use Rattle.xc_names.specs.PlainNames.{split}
+use Rattle.xc_chars.specs.PlainNames.{split}
 use Rattle.xc_names.specs.Prefixes.{Bindings}
 use Rattle.xc_names.specs.declared.expanded.Expanded.{Expanded}
 use Rattle.xc_names.specs.declared.expanded.NameId.{NameId}
 use Rattle.xc_names.specs.declared.wanted.Wanted.{Wanted}
 use Rattle.xc_top.proofs.KnownAlike.{AreAlike, listed_among, known_alike}
-use Rattle.xc_model.proofs.ListsOfImages.{any_changed}
+use Rattle.xc_lists.proofs.ListsOfImages.{any_changed}
 use Rattle.xc_top.proofs.RenamedNames.{IsOneName, renaming}
 use Rattle.xc_report.specs.Renamed.{renamed_id}
 use Rattle.xc_top.proofs.Renaming.{IsRenaming, same_number, IsRenamed, renamed_arc, renamed_network}

@@ -1,7 +1,7 @@
 -- The documents of a run: what is fetched, and what is read of it.
 use Rattle.std.specs.Prelude.{◌≡◌, ℕ, List, [], ◌∷◌, length, Option, Some, None, nat_lt, codes, if◌then◌else◌}
 use Rattle.xc_calc.specs.Linkbases.{is_linkbase}
-use Rattle.xc_model.specs.Places.{first_given}
+use Rattle.xc_lists.specs.Places.{first_given}
 use Rattle.xc_concepts.specs.Schemas.{is_schema}
 use Rattle.xc_elements.specs.DocumentTrees.{IsTreeOf, IsFirstFault}
 use Rattle.xc_elements.specs.declared.nodes.Node.{Node}

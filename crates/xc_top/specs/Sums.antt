@@ -8,12 +8,12 @@ use Rattle.std.specs.Ordering.{nat_cmp}
 use Rattle.xc_calc.specs.declared.arc.Arc.{Arc}
 use Rattle.xc_calc.specs.declared.arc.Network.{Network}
 use Rattle.xc_names.specs.NameSets.{is_among}
-use Rattle.xc_model.specs.Places.{first_given}
+use Rattle.xc_lists.specs.Places.{first_given}
 use Rattle.xc_decimal.specs.Numbers.{shortest_if}
 use Rattle.xc_decimal.specs.Shortest.{Shortest}
 use Rattle.xc_io.specs.Shelf.{Files}
 use Rattle.xc_names.specs.Names.{number_of}
-use Rattle.xc_names.specs.PlainNames.{split}
+use Rattle.xc_chars.specs.PlainNames.{split}
 use Rattle.xc_names.specs.Prefixes.{Bindings}
 use Rattle.xc_names.specs.declared.expanded.Expanded.{Expanded}
 use Rattle.xc_names.specs.declared.expanded.NameId.{NameId}

@@ -12,7 +12,7 @@ use Rattle.xc_calc.specs.declared.arc.ListedArc.{ListedArc}
 use Rattle.xc_calc.specs.declared.arc.Network.{Network}
 use Rattle.xc_concepts.specs.Declarations.{IsSchemaOf}
 use Rattle.xc_concepts.specs.Held.{AreHeld, AreTyped}
-use Rattle.xc_model.specs.Places.{first_given}
+use Rattle.xc_lists.specs.Places.{first_given}
 use Rattle.xc_concepts.specs.Rules as schema
 use Rattle.xc_concepts.specs.Schemas.{is_schema}
 use Rattle.xc_concepts.specs.declared.schema.Schema.{Schema}

@@ -7,7 +7,7 @@ use Rattle.xc_calc.specs.declared.arc.ArcKind.{ArcKind}
 use Rattle.xc_calc.specs.declared.arc.ArcKind.TheVariants.{New, Old}
 use Rattle.xc_interval.specs.declared.mode.Mode.{Mode}
 use Rattle.xc_interval.specs.declared.mode.Mode.TheVariants.{Rounding, Truncation}
-use Rattle.xc_names.specs.PlainNames.{split}
+use Rattle.xc_chars.specs.PlainNames.{split}
 
 -- what the words of `sum` name
 pub record SumWords : Type 0 where

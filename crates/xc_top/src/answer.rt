@@ -14,8 +14,8 @@ use crate::status::{Answer, Stop};
 use crate::sum::answer_report;
 use crate::words::{Check, Command, Sum};
 use std::alloc::Global;
-use xc_frac::Memory;
 use xc_io::Shelf;
+use xc_lists::Memory;
 
 /// What is written of a command, and how the run ends.
 pub fn answer_command<S: Shelf>(

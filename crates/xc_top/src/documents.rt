@@ -1,7 +1,7 @@
 // The files of a run, and the documents in them.
 ghost use Rattle.std.specs.Prelude.{◌≡◌, ◌≤◌, ◌<◌, ◌^◌, ◌∷◌, [], ℕ, List, Some, None, true, length, map, IfOk, IfSome, OnOk};
 ghost use Rattle.xc_io.specs.Faults.{Rose};
-ghost use Rattle.xc_model.specs.Places.{first_given};
+ghost use Rattle.xc_lists.specs.Places.{first_given};
 ghost use Rattle.xc_top.specs.Answers.{IfStopped, unread};
 ghost use Rattle.xc_top.specs.Documents.{limit, unfetched, first_unfetched, IsDocumentOf, AreDocumentsOf, IsContentOf, root_refusal, document_refusal, first_unread};
 ghost use Rattle.xc_top.specs.Run.{IsReadFaultOf, IsEnding, IsSettled};
@@ -14,8 +14,8 @@ use std::alloc::Global;
 use xc_calc::is_linkbase;
 use xc_concepts::is_schema;
 use xc_elements::{Tree, TreeFault, read_tree};
-use xc_frac::{Memory, Text};
 use xc_io::{Shelf, ShelfFault};
+use xc_lists::{Memory, Text};
 
 /// The greatest size of a file, in bytes.
 const LIMIT: usize = 67_108_864;

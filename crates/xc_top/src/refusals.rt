@@ -9,8 +9,8 @@ use std::alloc::Global;
 use xc_calc::LinkFault;
 use xc_concepts::SchemaFault;
 use xc_elements::TreeFault;
-use xc_frac::Items;
 use xc_lines::{placed_refusal_line, read_fault_line, refusal_line};
+use xc_lists::Items;
 use xc_report::{Member, ReportFault};
 
 // An answer with one line.

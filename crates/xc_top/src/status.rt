@@ -4,7 +4,7 @@ ghost use Rattle.xc_top.specs.Status.{number};
 ghost use Rattle.xc_top.specs.declared.status.Stop.TheVariants as stop;
 
 use std::alloc::{AllocError, AllocFailed};
-use xc_frac::{Items, Memory};
+use xc_lists::{Items, Memory};
 
 /// How a run ends. `number` gives what the program ends with.
 #[derive(Clone, Copy, Debug, PartialEq, Eq)]

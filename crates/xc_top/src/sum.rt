@@ -2,7 +2,7 @@
 ghost use Rattle.std.specs.Prelude.{◌≡◌, ◌∷◌, [], ℕ, Some, None, Ok, true, false, map, IfOk, OnOk};
 ghost use Rattle.std.specs.List.{zip};
 ghost use Rattle.xc_names.specs.NameSets.{is_among};
-ghost use Rattle.xc_model.specs.Places.{first_given};
+ghost use Rattle.xc_lists.specs.Places.{first_given};
 ghost use Rattle.xc_names.specs.Names.{KeepsNumbers};
 ghost use Rattle.xc_report.specs.Drafts.{draft_view};
 ghost use Rattle.xc_report.specs.Opened.{opened};
@@ -20,7 +20,7 @@ use crate::words::{Sum, is_negative, name_of};
 use std::alloc::Global;
 use xc_calc::{Arc, Network};
 use xc_decimal::{Decimal, read_decimal};
-use xc_frac::{Items, Memory, Text};
+use xc_lists::{Items, Memory, Text};
 use xc_names::{NameFault, NameId, NameSet, Names, Prefixes, Wanted, expand};
 use xc_report::{Draft, open_report};
 

@@ -11,8 +11,8 @@ ghost use Rattle.xc_top.specs.Judged.{AreVerdicts, status_of, has_finding, is_in
 use crate::Status;
 use std::alloc::Global;
 use xc_bind::{Binding, Verdict};
-use xc_frac::Memory;
 use xc_interval::Range;
+use xc_lists::Memory;
 use xc_points::{Point, Points};
 use xc_verdict::verdict;
 

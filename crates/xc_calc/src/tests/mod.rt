@@ -9,7 +9,7 @@ use crate::{ArcKind, Arcs, LinkFault, Network, is_linkbase};
 use std::alloc::Global;
 use xc_concepts::{Concepts, is_schema};
 use xc_elements::read_tree;
-use xc_frac::Memory;
+use xc_lists::Memory;
 use xc_names::{NameId, Names};
 
 const MONEY: &str = "xbrli:monetaryItemType";

@@ -6,7 +6,7 @@ use super::{
 use crate::{ArcKind, Arcs, LinkFault};
 use std::alloc::Global;
 use std::test::Fail;
-use xc_frac::Memory;
+use xc_lists::Memory;
 use xc_names::NameId;
 
 const GOOD: &str = "order=\"1\" weight=\"1\"";

@@ -2,7 +2,7 @@ mod trees;
 
 use super::*;
 use std::test::*;
-use xc_frac::characters::{is_name_char, is_name_start};
+use xc_chars::characters::{is_name_char, is_name_start};
 
 #[test]
 fn faults(rt: HostRuntime) {

@@ -2,8 +2,8 @@ use Rattle.std.proofs.Common.{◌≡◌, ◌++◌, ◌∷◌, [], Some, None, ap
 use Rattle.std.proofs.lemmas.List.{map-append}
 use Rattle.std.proofs.lemmas.Option.{slice_get-get_or}
 use Rattle.xc_calc.specs.Effective.{effective_at, is_effective}
-use Rattle.xc_model.proofs.Ranges.{gathered_more}
-use Rattle.xc_model.specs.Places.{before}
+use Rattle.xc_lists.proofs.Ranges.{gathered_more}
+use Rattle.xc_lists.specs.Places.{before}
 use Rattle.xc_calc.proofs.effective.effective_arcs.Goals.{then-is_effective+in_ok-push, else-is_effective}
 use Rattle.xc_calc.proofs.effective.effective_arcs.Goals as goal
 

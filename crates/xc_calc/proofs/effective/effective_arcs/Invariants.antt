@@ -1,6 +1,6 @@
 use Rattle.std.proofs.Common.{◌≡◌, map, filter_map}
 use Rattle.xc_calc.specs.Effective.{effective_at}
-use Rattle.xc_model.specs.Places.{before}
+use Rattle.xc_lists.specs.Places.{before}
 use Rattle.xc_calc.proofs.effective.effective_arcs.Given as goal
 
 -- the effective ones of the arcs so far

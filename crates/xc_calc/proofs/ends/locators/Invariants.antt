@@ -1,6 +1,6 @@
 use Rattle.std.proofs.Common.{◌≡◌, filter}
 use Rattle.xc_calc.specs.Linkbases.{is_locator}
-use Rattle.xc_model.specs.Places.{before}
+use Rattle.xc_lists.specs.Places.{before}
 use Rattle.xc_calc.proofs.ends.locators.Given as goal
 
 -- the locators of the nodes so far

@@ -2,7 +2,7 @@ use Rattle.std.proofs.Common.{◌<◌, All, length, ap, sym, subst, ◌∙◌, i
 use Rattle.std.proofs.lemmas.Result.{err_from_is_err_and}
 use Rattle.xc_calc.proofs.Drawing.{end_within, fault_by_source, fault_by_target}
 use Rattle.xc_calc.specs.Rules.{locator_fault}
-use Rattle.xc_model.specs.Places.{first_given}
+use Rattle.xc_lists.specs.Places.{first_given}
 use Rattle.xc_calc.proofs.linked.add_element.Goals as goal
 
 pub concepts_at-requires : goal.concepts_at-requires

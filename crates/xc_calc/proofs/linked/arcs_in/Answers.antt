@@ -3,7 +3,7 @@ use Rattle.std.proofs.lemmas.Result.{err_from_is_err_and}
 use Rattle.xc_calc.proofs.Drawing.{gathered_all}
 use Rattle.xc_calc.specs.Linked.{arcs_at}
 use Rattle.xc_calc.specs.Rules.{broken_at}
-use Rattle.xc_model.proofs.Ranges.{first_here, first_step}
+use Rattle.xc_lists.proofs.Ranges.{first_here, first_step}
 use Rattle.xc_calc.proofs.linked.arcs_in.Goals as goal
 
 pub returns-in_err-add_node-clause-fault : goal.returns-in_err-add_node-clause-fault

@@ -2,7 +2,7 @@ use Rattle.std.proofs.Common.{◌≡◌, ◌-◌, length, flat_map}
 use Rattle.std.specs.List.{range_with_len}
 use Rattle.xc_calc.specs.Linked.{arcs_at}
 use Rattle.xc_calc.specs.Rules.{broken_at}
-use Rattle.xc_model.specs.Places.{before, places, first_given}
+use Rattle.xc_lists.specs.Places.{before, places, first_given}
 use Rattle.xc_calc.proofs.linked.arcs_in.Given as goal
 
 -- the arcs of the nodes so far, of which none breaks a rule

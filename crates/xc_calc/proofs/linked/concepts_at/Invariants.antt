@@ -1,7 +1,7 @@
 use Rattle.std.proofs.Common.{◌≡◌, ◌++◌, drop}
 use Rattle.xc_calc.specs.Linked.{concepts_at}
 use Rattle.xc_calc.specs.Rules.{locator_fault}
-use Rattle.xc_model.specs.Places.{first_given}
+use Rattle.xc_lists.specs.Places.{first_given}
 use Rattle.xc_calc.proofs.linked.concepts_at.Given as goal
 
 -- the concepts so far and those that are left are all, and what is left breaks the same rule first

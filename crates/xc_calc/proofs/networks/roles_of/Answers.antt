@@ -2,7 +2,7 @@ use Rattle.std.proofs.Common.{◌+◌, ◌||◌, ap, sym, ◌∙◌, drop, map}
 use Rattle.std.specs.Str.{bytes_eq}
 use Rattle.xc_calc.proofs.Roles.{has_text, role_noted, role_step}
 use Rattle.xc_calc.specs.Networks.{some_role}
-use Rattle.xc_model.proofs.Anys.{or_along}
+use Rattle.xc_lists.proofs.Anys.{or_along}
 use Rattle.xc_calc.proofs.networks.roles_of.Goals as goal
 
 pub loop-arc-preserved : goal.loop-arc-preserved

@@ -1,5 +1,5 @@
 use Rattle.std.proofs.Common.{◌==◌, ◌||◌, ap, ◌∙◌}
-use Rattle.xc_model.proofs.Anys.{or_along}
+use Rattle.xc_lists.proofs.Anys.{or_along}
 use Rattle.xc_names.specs.NameSets.{is_among}
 use Rattle.xc_calc.proofs.wanted.note.Goals as goal
 

@@ -2,10 +2,10 @@ use Rattle.std.proofs.Common.{ap, sym, subst, ◌∙◌, ◌++◌, map, filter_m
 use Rattle.std.proofs.lemmas.List.{map-append}
 use Rattle.std.proofs.lemmas.List.Elements.{All-append}
 use Rattle.xc_concepts.proofs.Gathered.{all_listed, map_listed}
-use Rattle.xc_model.proofs.Ranges.{gathered_more}
+use Rattle.xc_lists.proofs.Ranges.{gathered_more}
 use Rattle.xc_concepts.specs.Declarations.{declared_at}
 use Rattle.xc_concepts.specs.Held.{IsHeld}
-use Rattle.xc_model.specs.Places.{before}
+use Rattle.xc_lists.specs.Places.{before}
 use Rattle.xc_concepts.proofs.reading.read_concepts.Goals as goal
 
 pub loop-at-preserved : goal.loop-at-preserved

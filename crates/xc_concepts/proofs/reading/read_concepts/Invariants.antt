@@ -1,7 +1,7 @@
 use Rattle.std.proofs.Common.{◌≡◌, All, map, filter_map}
 use Rattle.xc_concepts.specs.Declarations.{declared_at}
 use Rattle.xc_concepts.specs.Held.{IsHeld}
-use Rattle.xc_model.specs.Places.{before}
+use Rattle.xc_lists.specs.Places.{before}
 use Rattle.xc_names.specs.Names.{KeepsNumbers}
 use Rattle.xc_concepts.proofs.reading.read_concepts.Given as goal
 

@@ -1,5 +1,5 @@
 use Rattle.std.proofs.Common.{sym, ◌∙◌, ◌++◌, option_to_list}
-use Rattle.xc_model.proofs.Ranges.{gathered_more}
+use Rattle.xc_lists.proofs.Ranges.{gathered_more}
 use Rattle.xc_concepts.specs.Declarations.{named_type_at}
 use Rattle.xc_concepts.proofs.reading.read_types.Goals as goal
 

@@ -1,6 +1,6 @@
 use Rattle.std.proofs.Common.{◌+◌, arith, ap, length, sym, ◌∙◌, option_map}
 use Rattle.xc_concepts.proofs.Inside.{none_beyond}
-use Rattle.xc_model.proofs.Ranges.{first_after, first_step, first_none, absent}
+use Rattle.xc_lists.proofs.Ranges.{first_after, first_step, first_none, absent}
 use Rattle.xc_concepts.specs.References.{base_at, reference_view}
 use Rattle.xc_concepts.proofs.references.first_base.Goals as goal
 

@@ -1,6 +1,6 @@
 use Rattle.std.proofs.Common.{◌≡◌, ◌-◌, length}
 use Rattle.std.specs.List.{range_with_len}
-use Rattle.xc_model.specs.Places.{places, first_given}
+use Rattle.xc_lists.specs.Places.{places, first_given}
 use Rattle.xc_concepts.specs.References.{base_at}
 use Rattle.xc_concepts.proofs.references.first_base.Given as goal
 

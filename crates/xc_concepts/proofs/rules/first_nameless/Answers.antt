@@ -1,7 +1,7 @@
 use Rattle.std.proofs.Common.{◌≡◌, ◌+◌, arith, ap, sym, subst, ◌∙◌, length, filter_map}
 use Rattle.xc_concepts.proofs.Least.{IsLeast, has_place, least_more, least_within, first_least}
-use Rattle.xc_model.proofs.Ranges.{gathered_more}
-use Rattle.xc_model.specs.Places.{before, places, first_place, least}
+use Rattle.xc_lists.proofs.Ranges.{gathered_more}
+use Rattle.xc_lists.specs.Places.{before, places, first_place, least}
 use Rattle.xc_concepts.specs.Rules.{nameless_at}
 use Rattle.xc_concepts.proofs.rules.first_nameless.Goals as goal
 

@@ -1,5 +1,5 @@
 use Rattle.std.proofs.Common.{◌<◌, length, filter_map, IfSome}
-use Rattle.xc_model.specs.Places.{before}
+use Rattle.xc_lists.specs.Places.{before}
 use Rattle.xc_concepts.specs.Rules.{nameless_at}
 use Rattle.xc_concepts.proofs.Least.{IsLeast}
 use Rattle.xc_concepts.proofs.rules.first_nameless.Given as goal

@@ -1,9 +1,9 @@
 use Rattle.std.proofs.Common.{◌++◌, Some, None, arith, ap, sym, ◌∙◌, codes, map, length, filter_map, option_to_list, if◌then◌else◌}
 use Rattle.std.proofs.lemmas.List.{map-append}
 use Rattle.xc_concepts.proofs.Gathered.{map_listed}
-use Rattle.xc_model.proofs.Ranges.{first_here, first_step, gathered_more}
+use Rattle.xc_lists.proofs.Ranges.{first_here, first_step, gathered_more}
 use Rattle.xc_concepts.proofs.Repeats.{concept_repeated}
-use Rattle.xc_model.specs.Places.{before, place_where}
+use Rattle.xc_lists.specs.Places.{before, place_where}
 use Rattle.xc_concepts.specs.Rules.{repeats_concept}
 use Rattle.xc_concepts.specs.Schemas.{top_name}
 use Rattle.xc_concepts.proofs.rules.first_repeated_concept.Goals as goal

@@ -1,6 +1,6 @@
 use Rattle.std.proofs.Common.{◌≡◌, ◌-◌, map, filter_map, length}
 use Rattle.std.specs.List.{range_with_len}
-use Rattle.xc_model.specs.Places.{before, places, first_place}
+use Rattle.xc_lists.specs.Places.{before, places, first_place}
 use Rattle.xc_concepts.specs.Rules.{id_at, repeats_id}
 use Rattle.xc_concepts.proofs.rules.first_repeated_id.Given as goal
 

@@ -1,5 +1,5 @@
 use Rattle.std.proofs.Common.{◌∙◌}
-use Rattle.xc_model.proofs.Anys.{any_flat}
+use Rattle.xc_lists.proofs.Anys.{any_flat}
 use Rattle.xc_concepts.specs.Held.{is_typed_as}
 use Rattle.xc_concepts.proofs.typed.is_typed.Goals as goal
 

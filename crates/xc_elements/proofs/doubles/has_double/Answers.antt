@@ -1,6 +1,6 @@
 use Rattle.std.proofs.Common.{◌≡◌, IfOk, map, ap, sym, subst, ◌∙◌}
 use Rattle.xc_elements.proofs.DoubleLaws.{double_parts}
-use Rattle.xc_frac.specs.Doubles.{has_same, lent_texts, are_same_texts}
+use Rattle.xc_lists.specs.Doubles.{has_same, lent_texts, are_same_texts}
 use Rattle.xc_elements.proofs.doubles.has_double.Goals as goal
 
 pub returns : goal.returns

@@ -1,5 +1,5 @@
 use Rattle.std.proofs.Common.{◌≡◌, IfOk, map, ap, sym, subst, ◌∙◌}
-use Rattle.xc_frac.specs.Doubles.{has_same, lent_texts, are_same_texts}
+use Rattle.xc_lists.specs.Doubles.{has_same, lent_texts, are_same_texts}
 use Rattle.xc_report.proofs.DoubleLaws.{twice_parts}
 use Rattle.xc_report.proofs.doubles.has_twice.Goals as goal
 

@@ -1,5 +1,5 @@
 use Rattle.std.proofs.Common.{◌≡◌, ◌++◌, map, drop, filter_map}
-use Rattle.xc_frac.specs.Doubles.{lent_texts}
+use Rattle.xc_lists.specs.Doubles.{lent_texts}
 use Rattle.xc_report.specs.Doubles.{part_name}
 use Rattle.xc_report.proofs.doubles.names_of.Given as goal
 

@@ -1,0 +1,4 @@
+pub mod Characters
+pub mod Laws
+pub mod PlainNames
+pub mod Trimmed

@@ -1,0 +1,4 @@
+pub mod Doubles
+pub mod Firsts
+pub mod Lending
+pub mod Places

@@ -7,7 +7,6 @@ pub mod Numerals
 pub mod OneShortest
 pub mod Parts
 pub mod Points
-pub mod Powers
 pub mod ReadAsSpelled
 pub mod Spelled
 pub mod Trimmed

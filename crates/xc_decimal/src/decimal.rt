@@ -1,11 +1,10 @@
-ghost use Rattle.std.specs.Prelude.{◌≡◌, ◌^◌, ◌≤◌, ◌<◌};
+ghost use Rattle.std.specs.Prelude.{◌≡◌, ◌^◌};
 ghost use Rattle.xc_model.specs.Fraction.{SameNumber};
 ghost use Rattle.xc_model.specs.Ratio.{fraction_of, IsOver};
 ghost use Rattle.xc_decimal.specs.Shortest.{IsShortest, decimal_number};
 
-use crate::fractions::ratio;
 use std::marker::Model;
-use xc_frac::Frac;
+use xc_frac::{Frac, power, ratio};
 
 /// A decimal number, digits / 10^places, in its shortest form: its last place is not 0. The digits
 /// are at most 2^126 in magnitude, the places at most 37.
@@ -66,14 +65,4 @@ impl Decimal {
     {
         Decimal { digits, places }
     }
-}
-
-// 10^places.
-fn power(places: u32) -> u128
-    requires { places ≤ 37 }
-    ensures is { result ≡ 10 ^ places }
-    ensures narrow { result < 2 ^ 127 }
-    ensures positive { 0 < result }
-{
-    10u128.pow(places)
 }

@@ -1,14 +1,14 @@
 // Fractions as texts: the numerator, and where it is not 1 the denominator behind `/`.
 ghost use Rattle.std.specs.Prelude.{◌≡◌, ◌≢◌, ◌++◌, ◌↔◌, ◌<◌, ◌^◌, ℕ, ℤ, pos, Some, None, OnOk, OnErr, codes, position, decimal, unsigned_abs};
 ghost use Rattle.std.specs.Fmt.{signed_decimal};
-ghost use Rattle.xc_model.specs.Ratio.{Ratio, IsOver};
+ghost use Rattle.xc_model.specs.Ratio.{Ratio};
 ghost use Rattle.xc_model.specs.Width.{IsNarrow};
 ghost use Rattle.xc_decimal.specs.Reading.{is_negative};
 ghost use Rattle.xc_decimal.specs.Spelling.{spelling, is_slash, is_numeral, without_minus, IsIntegerOf, IsNaturalOf};
 
 use crate::digits::{are_digits, number_behind, signed};
 use std::alloc::Global;
-use xc_frac::Frac;
+use xc_frac::{Frac, ratio};
 use xc_lists::Memory;
 
 /// Appends the one spelling of a fraction: its numerator where the denominator is 1, and else
@@ -81,16 +81,6 @@ fn lowest(num: i128, den: u128) -> Option<Frac>
     } else {
         None
     }
-}
-
-// num / den.
-pub(crate) fn ratio(num: i128, den: u128) -> Frac
-    requires num { IsNarrow num }
-    requires den { den < 2 ^ 127 }
-    requires positive { 0 < den }
-    ensures { IsOver result num den }
-{
-    Frac::of(num, den as i128).unwrap()
 }
 
 // The whole number that a text spells without leading zeros, where it fits.

@@ -6,3 +6,4 @@ pub mod Inverses
 pub mod LeastCommons
 pub mod LowestTerms
 pub mod Orders
+pub mod PowersOfTen

@@ -217,3 +217,14 @@ impl Frac {
         Some(Frac::lowest(num, den))
     }
 }
+
+/// num / den, for numbers that are known to fit: neither exceeds 2^127 - 1 in magnitude, and the
+/// denominator is not 0.
+pub fn ratio(num: i128, den: u128) -> Frac
+    requires num { IsNarrow num }
+    requires den { den < 2 ^ 127 }
+    requires positive { 0 < den }
+    ensures { IsOver result num den }
+{
+    Frac::of(num, den as i128).unwrap()
+}

@@ -1,9 +1,0 @@
--- Powers of ten that fit 128 bits.
-use Rattle.std.proofs.Common.{ℕ, ◌^◌, ◌<◌, ◌≤◌, arith, lit<}
-use Rattle.std.proofs.Math.Nat.{pow-le-pow_right}
-
-pub power_narrow : (places : ℕ) → places ≤ 37 → 10 ^ places < 2 ^ 127
-power_narrow places h =
-    let most : 10 ^ places ≤ 10 ^ 37 = pow-le-pow_right (lit< tt) h in
-    let last : 10 ^ 37 < 2 ^ 127 = lit< tt in
-    omega (arith, most, last)

@@ -1,2 +1,3 @@
+pub mod Paths
 pub mod Splits
 pub mod WhiteSpace

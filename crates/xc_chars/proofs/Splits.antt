@@ -11,7 +11,8 @@ use Rattle.std.proofs.lemmas.List.Sums.{split_at_first, passes_at_first, positio
 use Rattle.std.proofs.lemmas.Str.{encodes-chars, NoCharPasses-byte, IsUtf8-take, IsCharBoundary-before_ascii}
 use Rattle.std.proofs.lemmas.Bool.{and_parts}
 use Rattle.xc_chars.specs.Characters.{is_name_start, is_name_char}
-use Rattle.xc_chars.specs.PlainNames.{is_plain_name, begins_name, is_colon, both_plain, split, IsJoined}
+use Rattle.xc_chars.specs.Parts.{is_colon}
+use Rattle.xc_chars.specs.PlainNames.{is_plain_name, begins_name, both_plain, split, IsJoined}
 
 drop_past : (xs : List ℕ) (y : ℕ) (ys : List ℕ) → drop (length xs + 1) (xs ++ y ∷ ys) ≡ ys
 drop_past [] y ys = refl

@@ -1,13 +1,9 @@
 -- Names as XML 1.0 spells them, and two of them joined by a colon.
-use Rattle.std.specs.Prelude.{◌≡◌, ℕ, ◌==◌, ◌&&◌, ◌++◌, List, [], ◌∷◌, Bool, true, false, nat_lt, length, codes, Option, Some, None, option_and_then, if◌then◌else◌}
-use Rattle.std.specs.Borrow.{Bor}
-use Rattle.std.specs.List.{list_all, position_or_len, before_first, after_first}
+use Rattle.std.specs.Prelude.{◌≡◌, ℕ, ◌&&◌, ◌++◌, List, [], ◌∷◌, Bool, true, false, codes, Option, Some, None, option_and_then, if◌then◌else◌}
+use Rattle.std.specs.List.{list_all}
 use Rattle.std.specs.Str.{chars}
 use Rattle.xc_chars.specs.Characters.{is_name_start, is_name_char}
-
--- two lent texts
-abbrev pub pair_view : Bor (List ℕ) × Bor (List ℕ) → List ℕ × List ℕ
-pair_view p = (p.0.now, p.1.now)
+use Rattle.xc_chars.specs.Parts.{is_colon, around}
 
 -- characters of which the first may begin a name
 abbrev pub begins_name : List ℕ → Bool
@@ -18,21 +14,13 @@ begins_name (c ∷ cs) = is_name_start c
 abbrev pub is_plain_name : List ℕ → Bool
 is_plain_name text = begins_name (chars text) && list_all is_name_char (chars text)
 
--- a colon
-abbrev pub is_colon : ℕ → Bool
-is_colon byte = byte == 58
-
--- what stands before the first colon, and after it
-abbrev pub around_colon : List ℕ → Option (List ℕ × List ℕ)
-around_colon text = if nat_lt (position_or_len is_colon text) (length text) then Some (before_first is_colon text, after_first is_colon text) else None
-
 -- these two parts, where both are plain names
 abbrev pub both_plain : List ℕ × List ℕ → Option (List ℕ × List ℕ)
 both_plain parts = if is_plain_name parts.0 && is_plain_name parts.1 then Some parts else None
 
 -- a prefix and a local part, where the text is two plain names and one colon: `PrefixedName` of Namespaces in XML 1.0, section 4
 abbrev pub split : List ℕ → Option (List ℕ × List ℕ)
-split text = option_and_then both_plain (around_colon text)
+split text = option_and_then both_plain (around is_colon text)
 
 -- the text is these two plain names, joined by a colon
 pub record IsJoined (text prefix local : List ℕ) : Type 0 where

@@ -3,16 +3,18 @@ ghost use Rattle.std.specs.Prelude.{◌≡◌, option_map};
 ghost use Rattle.std.specs.Str.{chars};
 ghost use Rattle.std.specs.List.{list_all};
 ghost use Rattle.xc_chars.specs.Characters.{is_name_char};
-ghost use Rattle.xc_chars.specs.PlainNames.{pair_view, is_plain_name, begins_name, around_colon, split};
+ghost use Rattle.xc_chars.specs.Parts.{pair_view};
+ghost use Rattle.xc_chars.specs.PlainNames.{is_plain_name, begins_name, split};
 
 use crate::characters::{is_name_char, is_name_start};
+use crate::parts::around;
 
 /// The prefix and the local part of a text of exactly two plain names joined by one colon
 /// (`PrefixedName` of Namespaces in XML 1.0, section 4); None for every other text.
 pub fn split(text: &str) -> Option<(&str, &str)>
     ensures { option_map pair_view result ≡ split text.now }
 {
-    match around_colon(text) {
+    match around(text, ':') {
         Some((prefix, local)) => {
             if is_plain_name(prefix) && is_plain_name(local) {
                 Some((prefix, local))
@@ -20,17 +22,6 @@ pub fn split(text: &str) -> Option<(&str, &str)>
                 None
             }
         }
-        None => None,
-    }
-}
-
-/// What stands before the first colon of a text and after it, whatever that is; None where there
-/// is no colon.
-pub fn around_colon(text: &str) -> Option<(&str, &str)>
-    ensures { option_map pair_view result ≡ around_colon text.now }
-{
-    match text.split_once(':') {
-        Some((before, after)) => Some((before, after)),
         None => None,
     }
 }

@@ -18,4 +18,4 @@ pub use name_set::NameSet;
 pub use names::Names;
 pub use prefixes::Prefixes;
 pub use wanted::Wanted;
-pub use xc_chars::{around_colon, is_plain_name, split};
+pub use xc_chars::{is_plain_name, split};

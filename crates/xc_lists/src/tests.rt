@@ -28,19 +28,15 @@ fn texts_and_lists(rt: HostRuntime) -> Result<(), Fail> {
 }
 
 #[test]
-fn first_places(rt: HostRuntime) -> Result<(), Fail> {
-    let firsts = Firsts::of(rt.alloc(), [3u64, 5, 3, 7].to_vec(rt.alloc())?)?;
+fn equal_items(rt: HostRuntime) -> Result<(), Fail> {
+    let alloc = rt.alloc();
+    let firsts = Firsts::of(alloc, [3u64, 5, 3, 7].to_vec(alloc)?)?;
     for (item, want) in [(3, Some(0)), (5, Some(1)), (7, Some(3)), (4, None)] {
         assert_eq!(rt; firsts.first(&item), want);
         assert_eq!(rt; firsts.first_or_len(&item), want.unwrap_or(4));
     }
     assert_eq!(rt; firsts.as_slice(), [3, 5, 3, 7].as_slice());
-    Ok(())
-}
 
-#[test]
-fn equal_pairs(rt: HostRuntime) -> Result<(), Fail> {
-    let alloc = rt.alloc();
     let pair = |first, second| TextPair { first, second };
     let apart = [
         pair("a", "b"),

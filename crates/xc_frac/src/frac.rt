@@ -1,5 +1,5 @@
 ghost use Rattle.std.specs.Prelude.{◌≡◌, ◌≢◌, ℕ, ℤ, pos, neg_ℤ, ◌<◌, ◌^◌, ◌*ℤ◌, ◌+ℤ◌, ◌-ℤ◌, ◌↔◌, IsNone, IsOk, IfSome, IfNone, OnSome, IfOk, IfErr, OnOk, OnErr};
-ghost use Rattle.xc_model.specs.Fraction.{whole, SameNumber, neg_of, sum_of, difference_of, product_of, IsQuotient};
+ghost use Rattle.xc_model.specs.Fraction.{whole, SameNumber, neg_of, sum_of, difference_of, product_of, IsQuotient, IsProductOver, IsQuotientOver};
 ghost use Rattle.xc_model.specs.Order.{Orders, OrdersInt, SameSign};
 ghost use Rattle.xc_model.specs.Ratio.{IsLowest, fraction_of, IsOver};
 ghost use Rattle.xc_model.specs.Width.{IsNarrow, SumPasses, DifferencePasses, ProductPasses, QuotientPasses};
@@ -118,6 +118,12 @@ impl Frac {
         ensures fits { OnOk result (¬ (ProductPasses (fraction_of self) (fraction_of other))) }
         ensures passes { OnErr result (ProductPasses (fraction_of self) (fraction_of other)) }
         ensures operands { IfErr result (λ w. w ≡ record { op = Op.Mul; left = self; right = other }) }
+        // where the numbers over two denominators give p / c in any terms, it is that
+        ensures over { (n m p : ℤ) (d e c : ℕ) → IsOver self n d → IsOver other m e
+            → IsProductOver n d m e p c → IfOk result (λ r. IsOver r p c) }
+        // and where both fit, the product does not pass
+        ensures room { (n m p : ℤ) (d e c : ℕ) → IsOver self n d → IsOver other m e
+            → IsProductOver n d m e p c → c < 2 ^ 127 → IsNarrow p → IsOk result }
     {
         self.product(other).ok_or(Wide::of(Op::Mul, self, other))
     }
@@ -130,6 +136,12 @@ impl Frac {
         ensures fits { OnOk result (¬ (QuotientPasses (fraction_of self) (fraction_of other))) }
         ensures passes { OnErr result (QuotientPasses (fraction_of self) (fraction_of other)) }
         ensures operands { IfErr result (λ w. w ≡ record { op = Op.Div; left = self; right = other }) }
+        // where the numbers over two denominators give p / c in any terms, it is that
+        ensures over { (n m p : ℤ) (d e c : ℕ) → IsOver self n d → IsOver other m e
+            → IsQuotientOver n d m e p c → IfOk result (λ r. IsOver r p c) }
+        // and where both fit, the quotient does not pass
+        ensures room { (n m p : ℤ) (d e c : ℕ) → IsOver self n d → IsOver other m e
+            → IsQuotientOver n d m e p c → c < 2 ^ 127 → IsNarrow p → IsOk result }
     {
         self.product(other.inverse())
             .ok_or(Wide::of(Op::Div, self, other))

@@ -68,6 +68,12 @@ product_sum_cross a b c d e f = simp ring (omega (arith, ints))
 pub product-sum : (x y z : Fraction) → SameNumber (product_of x (sum_of y z)) (sum_of (product_of x y) (product_of x z))
 product-sum x y z = record { cross = product_sum_cross x.num (pos x.den) y.num (pos y.den) z.num (pos z.den) }
 
+sum_product_cross : (a b c d e f : ℤ) → ((a *ℤ d +ℤ c *ℤ b) *ℤ e) *ℤ ((b *ℤ f) *ℤ (d *ℤ f)) ≡ ((a *ℤ e) *ℤ (d *ℤ f) +ℤ (c *ℤ e) *ℤ (b *ℤ f)) *ℤ ((b *ℤ d) *ℤ f)
+sum_product_cross a b c d e f = simp ring (omega (arith, ints))
+
+pub sum-product : (x y z : Fraction) → SameNumber (product_of (sum_of x y) z) (sum_of (product_of x z) (product_of y z))
+sum-product x y z = record { cross = sum_product_cross x.num (pos x.den) y.num (pos y.den) z.num (pos z.den) }
+
 -- q / r is (a / b) / (c / d)
 record IsRatio (a b c d q : ℤ) (r : ℕ) : Type 0 where
   pub positive : 0 < r

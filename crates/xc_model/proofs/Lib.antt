@@ -4,5 +4,6 @@ pub mod Integers
 pub mod LeastCommon
 pub mod Lowest
 pub mod Numbers
+pub mod NumbersOver
 pub mod Over
 pub mod Quotients

@@ -62,7 +62,7 @@ no_product : (l k d : ℕ) → l * k ≡ d → 0 < d → k ≡ 0 → ⊥
 no_product l k d e p h = omega (arith, e, ap (λ z. l * z) h)
 
 -- over any common denominator d no number is less in magnitude than over the least: where all fits over d, nothing passes
-room : (x y : Fraction) (n m : ℤ) (d : ℕ) (p : 0 < d) → SameNumber x (ratio n d p) → SameNumber y (ratio m d p)
+pub room : (x y : Fraction) (n m : ℤ) (d : ℕ) (p : 0 < d) → SameNumber x (ratio n d p) → SameNumber y (ratio m d p)
     → IsCoprime (unsigned_abs x.num) x.den → IsCoprime (unsigned_abs y.num) y.den → d < 2 ^ 127 → IsNarrow n → IsNarrow m → IsNarrow (n +ℤ m) → SumPasses x y → ⊥
 room x y n m d p left right left_lowest right_lowest d_narrow n_narrow m_narrow sum_narrow w =
     let divides : w.den ∣ d = w.meets.common.least d (lowest_den_divides x (ratio n d p) left left_lowest) (lowest_den_divides y (ratio m d p) right right_lowest) in
@@ -96,10 +96,10 @@ difference_room f g n m d left right d_narrow n_narrow m_narrow difference_narro
     let lowest : IsCoprime (unsigned_abs (neg_ℤ g.num)) (fraction_of g).den = subst (λ z. IsCoprime z (fraction_of g).den) (sym (unsigned_abs-neg g.num)) g.lowest.coprime in
     room (fraction_of f) (neg_of (fraction_of g)) n (neg_ℤ m) d p (over_same f n d p left) turned f.lowest.coprime lowest d_narrow n_narrow (omega (arith, ints, unsigned_abs-neg m)) (omega (arith, ints))
 
-same_factor : (d : ℕ) (n m : ℤ) → 0 < d → n *ℤ pos d ≡ m *ℤ pos d → n ≡ m
+pub same_factor : (d : ℕ) (n m : ℤ) → 0 < d → n *ℤ pos d ≡ m *ℤ pos d → n ≡ m
 same_factor d n m p e = cancel (pos d) n m (λ z. absurd (omega (arith, ints, z))) (mul_comm (pos d) n ∙ e ∙ mul_comm m (pos d))
 
-below_factor : (d : ℕ) (n m : ℤ) → 0 < d → (n *ℤ pos d) <ℤ (m *ℤ pos d) → n <ℤ m
+pub below_factor : (d : ℕ) (n m : ℤ) → 0 < d → (n *ℤ pos d) <ℤ (m *ℤ pos d) → n <ℤ m
 below_factor d n m p h = cancel_lt (pos d) n m (omega (arith, ints)) (omega (arith, ints, h, mul_comm (pos d) n, mul_comm (pos d) m))
 
 -- two fractions over d compare as their numerators do

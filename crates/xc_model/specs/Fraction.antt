@@ -61,3 +61,18 @@ product_of x y = record {
 pub record IsQuotient (q x y : Fraction) : Type 0 where
   pub some : y.num ≢ pos 0
   pub back : SameNumber (product_of q y) x
+
+-- x is n / d, in any terms
+pub record IsNumberOver (x : Fraction) (n : ℤ) (d : ℕ) : Type 0 where
+  pub positive : 0 < d
+  pub cross : x.num *ℤ pos d ≡ n *ℤ pos x.den
+
+-- p / c is the product of n / d and m / e
+pub record IsProductOver (n : ℤ) (d : ℕ) (m : ℤ) (e : ℕ) (p : ℤ) (c : ℕ) : Type 0 where
+  pub positive : 0 < c
+  pub cross : p *ℤ pos (d * e) ≡ (n *ℤ m) *ℤ pos c
+
+-- p / c is n / d over m / e: p / c times m / e is n / d
+pub record IsQuotientOver (n : ℤ) (d : ℕ) (m : ℤ) (e : ℕ) (p : ℤ) (c : ℕ) : Type 0 where
+  pub positive : 0 < c
+  pub cross : (p *ℤ m) *ℤ pos d ≡ n *ℤ pos (c * e)

@@ -45,3 +45,10 @@ pub record QuotientPasses (x y : Fraction) : Type 0 where
   pub lowest : Fraction
   pub same : IsQuotient lowest x y
   pub wide : IsWideLowest lowest
+
+-- over d, two numerators and their sum fit
+pub record SumFits (n m : ℤ) (d : ℕ) : Type 0 where
+  pub den : d < 2 ^ 127
+  pub left : IsNarrow n
+  pub right : IsNarrow m
+  pub sum : IsNarrow (n +ℤ m)

@@ -1,5 +1,5 @@
 -- The order of pairs of numbers that have no tiny part of their own.
-use Rattle.std.proofs.Common.{arith, pos, inl, inr}
+use Rattle.std.proofs.Common.{◌≢◌, arith, pos, refl, inl, inr}
 use Rattle.std.proofs.lemmas.Int.{ints}
 use Rattle.std.specs.declared.cmp.Ordering.{Ordering}
 use Rattle.std.specs.declared.cmp.Ordering.TheVariants.{Less, Equal, Greater}
@@ -26,3 +26,10 @@ pub by_tiny : (o : Ordering) (x y a b : Parts) → SameNumber a.tiny (whole (pos
 by_tiny Less x y a b left right same h = inr (same.real, reals_compare Less a b left right h)
 by_tiny Equal x y a b left right same h = record { real = same.real; tiny = h.real }
 by_tiny Greater x y a b left right same h = inr (same-sym x.real y.real same.real, reals_compare Greater a b left right h)
+
+-- and where they are not, x and y tell it
+pub by_real : (o : Ordering) (x y a b : Parts) → o ≢ Equal → SameNumber x.tiny (whole (pos 0)) → SameNumber y.tiny (whole (pos 0))
+    → OrdersParts o x y → OrdersParts o (record { real = x.real; tiny = a.real }) (record { real = y.real; tiny = b.real })
+by_real Less x y a b other left right h = inl (reals_compare Less x y left right h)
+by_real Equal x y a b other left right h = absurd (other refl)
+by_real Greater x y a b other left right h = inl (reals_compare Greater x y left right h)

@@ -6,4 +6,5 @@ pub mod Inverses
 pub mod LeastCommons
 pub mod LowestTerms
 pub mod Orders
+pub mod PartsOver
 pub mod PowersOfTen

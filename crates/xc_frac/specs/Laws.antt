@@ -43,6 +43,28 @@ module _ {A : Type 0} (Same : A → A → Type 0) where
     abbrev pub DistributesOver : (A → A → A) → Type 0
     DistributesOver add = (x y z : A) → Same (op x (add y z)) (add (op x y) (op x z))
 
+-- x times k, of things of one kind by things of another
+module _ {A B : Type 0} (Same : A → A → Type 0) (times : A → B → A) where
+  -- what is alike has alike multiples
+  abbrev pub AlikeMultiples : (B → B → Type 0) → Type 0
+  AlikeMultiples Alike = (x y : A) (k l : B) → Same x y → Alike k l → Same (times x k) (times y l)
+
+  -- (x op y) k is (x k) op (y k)
+  abbrev pub DistributesOverThings : (A → A → A) → Type 0
+  DistributesOverThings op = (x y : A) (k : B) → Same (times (op x y) k) (op (times x k) (times y k))
+
+  -- x (k add l) is (x k) op (x l)
+  abbrev pub DistributesOverFactors : (B → B → B) → (A → A → A) → Type 0
+  DistributesOverFactors add op = (x : A) (k l : B) → Same (times x (add k l)) (op (times x k) (times x l))
+
+  -- (x k) l is x (k by l)
+  abbrev pub MultipliesFactors : (B → B → B) → Type 0
+  MultipliesFactors by = (x : A) (k l : B) → Same (times (times x k) l) (times x (by k l))
+
+  -- x one is x
+  abbrev pub HasOneFactor : B → Type 0
+  HasOneFactor one = (x : A) → Same (times x one) x
+
 -- o compares x with y
 module _ {A : Type 0} (Compares : Ordering → A → A → Type 0) where
   -- any two compare

@@ -1,8 +1,10 @@
-ghost use Rattle.std.specs.Prelude.{◌≢◌, pos, IfOk, IfErr, OnOk};
-ghost use Rattle.xc_model.specs.Fraction.{SameNumber, product_of, IsQuotient};
+ghost use Rattle.std.specs.Prelude.{◌≢◌, ℕ, ℤ, pos, IsOk, IfOk, IfErr, OnOk};
+ghost use Rattle.xc_model.specs.Fraction.{SameNumber, IsNumberOver, product_of, IsQuotient};
 ghost use Rattle.xc_frac.specs.declared.wide.Op.{Op};
 ghost use Rattle.xc_frac.specs.declared.wide.Wide.{Wide};
+ghost use Rattle.xc_frac.specs.Parts.{WholeParts, ArePartsOver, AreNarrowParts, ArePartsTimes, ArePartsBy, pair_of};
 ghost use Rattle.xc_frac.specs.Passes.{FirstPasses};
+ghost use Rattle.xc_frac.specs.Rooms.{pair_sums_fit, pair_differences_fit};
 
 use crate::exact::{Exact, Scalar};
 use crate::wide::Wide;
@@ -17,9 +19,13 @@ pub struct Delta<K: Scalar> {
 }
 
 impl<K: Scalar> Exact for Delta<K> {
-    ghost parts = { λ x. record { real = (K.parts x.real).real; tiny = (K.parts x.tiny).real } };
+    ghost parts = { λ x. pair_of K.parts x.real x.tiny };
 
     ghost passes = { λ op x y. FirstPasses (K.passes op x.real y.real) (K.passes op x.tiny y.tiny) };
+
+    ghost sums_have_room = { λ x y. pair_sums_fit K.parts K.passes K.no_tiny K.sums_have_room x.real y.real x.tiny y.tiny };
+
+    ghost differences_have_room = { λ x y. pair_differences_fit K.parts K.passes K.no_tiny K.differences_have_room x.real y.real x.tiny y.tiny };
 
     fn zero() -> Self {
         Delta {
@@ -56,19 +62,28 @@ impl<K: Scalar> Exact for Delta<K> {
 }
 
 impl<K: Scalar> Delta<K> {
-    /// Both parts times a number, or the multiplication that passes, the real part's first.
+    /// A number times both parts, the number first; or the multiplication that passes, the real
+    /// part's first.
     pub fn scaled(self, by: K) -> Result<Self, Wide>
         ensures real { IfOk result (λ r. SameNumber (K.parts r.real).real
             (product_of (K.parts self.real).real (K.parts by).real)) }
         ensures tiny { IfOk result (λ r. SameNumber (K.parts r.tiny).real
             (product_of (K.parts self.tiny).real (K.parts by).real)) }
         ensures fits { OnOk result ((w : Wide) →
-            ¬ (FirstPasses (K.passes Op.Mul self.real by) (K.passes Op.Mul self.tiny by) w)) }
+            ¬ (FirstPasses (K.passes Op.Mul by self.real) (K.passes Op.Mul by self.tiny) w)) }
         ensures passes { IfErr result
-            (FirstPasses (K.passes Op.Mul self.real by) (K.passes Op.Mul self.tiny by)) }
+            (FirstPasses (K.passes Op.Mul by self.real) (K.passes Op.Mul by self.tiny)) }
+        // where the whole numbers over two denominators give p / c in any terms, it is these
+        ensures over { (a p : WholeParts) (m : ℤ) (d e c : ℕ) → ArePartsOver (pair_of K.parts self.real self.tiny) a d
+            → IsNumberOver (K.parts by).real m e → ArePartsTimes m e a d p c
+            → IfOk result (λ r. ArePartsOver (pair_of K.parts r.real r.tiny) p c) }
+        // and where these fit, nothing passes
+        ensures room { (a p : WholeParts) (m : ℤ) (d e c : ℕ) → ArePartsOver (pair_of K.parts self.real self.tiny) a d
+            → IsNumberOver (K.parts by).real m e → ArePartsTimes m e a d p c
+            → AreNarrowParts p c → IsOk result }
     {
-        let real = self.real.mul(by)?;
-        let tiny = self.tiny.mul(by)?;
+        let real = by.mul(self.real)?;
+        let tiny = by.mul(self.tiny)?;
         Ok(Delta { real, tiny })
     }
 
@@ -83,6 +98,14 @@ impl<K: Scalar> Delta<K> {
             ¬ (FirstPasses (K.passes Op.Div self.real by) (K.passes Op.Div self.tiny by) w)) }
         ensures passes { IfErr result
             (FirstPasses (K.passes Op.Div self.real by) (K.passes Op.Div self.tiny by)) }
+        // where the whole numbers over two denominators give p / c in any terms, it is these
+        ensures over { (a p : WholeParts) (m : ℤ) (d e c : ℕ) → ArePartsOver (pair_of K.parts self.real self.tiny) a d
+            → IsNumberOver (K.parts by).real m e → ArePartsBy a d m e p c
+            → IfOk result (λ r. ArePartsOver (pair_of K.parts r.real r.tiny) p c) }
+        // and where these fit, nothing passes
+        ensures room { (a p : WholeParts) (m : ℤ) (d e c : ℕ) → ArePartsOver (pair_of K.parts self.real self.tiny) a d
+            → IsNumberOver (K.parts by).real m e → ArePartsBy a d m e p c
+            → AreNarrowParts p c → IsOk result }
     {
         let real = self.real.div(by)?;
         let tiny = self.tiny.div(by)?;

@@ -3,8 +3,11 @@
 ghost use Rattle.std.specs.Prelude.{◌≡◌, pos};
 ghost use Rattle.xc_model.specs.Fraction.{Fraction, SameNumber, IsBelow, whole, neg_of, sum_of, product_of};
 ghost use Rattle.xc_model.specs.Order.{Orders};
-ghost use Rattle.xc_frac.specs.Laws.{IsEquivalence, Respects, BothRespected, IsAssociative, IsCommutative, IsNeutral, GivesInverses, DistributesOver, IsTotal, IsSingle, IsAntisymmetric, IsTransitive, ComparesAlike, Keeps, Reverses, SignsTell, RealsCompare, Divides, DividesOnce, CrossProductsTell, HasOneLowest};
+ghost use Rattle.xc_frac.specs.Laws.{IsEquivalence, Respects, BothRespected, IsAssociative, IsCommutative, IsNeutral, GivesInverses, DistributesOver, AlikeMultiples, DistributesOverThings, DistributesOverFactors, MultipliesFactors, HasOneFactor, IsTotal, IsSingle, IsAntisymmetric, IsTransitive, ComparesAlike, Keeps, Reverses, SignsTell, RealsCompare, Divides, DividesOnce, CrossProductsTell, HasOneLowest};
 ghost use Rattle.xc_frac.specs.Parts.{Parts, SameParts, IsLess, OrdersParts, zero_parts, neg_parts, sum_parts, scaled_parts};
+ghost use Rattle.xc_frac.specs.Passes.{SumsHaveRoom, DifferencesHaveRoom, ProductsHaveRoom, QuotientsHaveRoom};
+
+use crate::exact::{Exact, Scalar};
 
 /// Fractions in lowest terms are the same number exactly where they are equal.
 pub fn lowest_terms()
@@ -61,6 +64,15 @@ pub fn pairs_are_a_group()
     ensures inverse { GivesInverses SameParts sum_parts neg_parts zero_parts }
 {}
 
+/// Pairs are multiplied by numbers as the elements of a module are.
+pub fn pairs_are_a_module()
+    ensures alike { AlikeMultiples SameParts scaled_parts SameNumber }
+    ensures pairs { DistributesOverThings SameParts scaled_parts sum_parts }
+    ensures factors { DistributesOverFactors SameParts scaled_parts sum_of sum_parts }
+    ensures products { MultipliesFactors SameParts scaled_parts product_of }
+    ensures one { HasOneFactor SameParts scaled_parts (whole (pos 1)) }
+{}
+
 /// The order of pairs is total, by the real part first, and the arithmetic keeps it as in an ordered
 /// group.
 pub fn pairs_are_ordered()
@@ -77,4 +89,18 @@ pub fn pairs_are_ordered()
     ensures negative_factor { (z : Fraction) → IsBelow z (whole (pos 0))
         → Reverses OrdersParts (λ x. scaled_parts x z) }
     ensures reals { RealsCompare }
+{}
+
+/// Where values are whole numbers over one denominator that fit with their sums, or differences,
+/// no sum passes, and no difference.
+pub fn sums_have_room<E: Exact>()
+    ensures sums { SumsHaveRoom E.parts E.passes }
+    ensures differences { DifferencesHaveRoom E.parts E.passes }
+{}
+
+/// Where a product, or a quotient, is a whole number over some denominator and both fit, it does not
+/// pass.
+pub fn products_have_room<K: Scalar>()
+    ensures products { ProductsHaveRoom K.parts K.passes }
+    ensures quotients { QuotientsHaveRoom K.parts K.passes }
 {}

@@ -4,6 +4,7 @@ ghost use Rattle.xc_model.specs.Ratio.{fraction_of};
 ghost use Rattle.xc_model.proofs.Numbers.{same-refl};
 ghost use Rattle.xc_frac.specs.Parts.{real_alone};
 ghost use Rattle.xc_frac.specs.Passes.{PassesAs};
+ghost use Rattle.xc_frac.specs.Rooms.{sums_fit, differences_fit, products_fit, quotients_fit};
 
 use crate::exact::{Exact, Scalar};
 use crate::frac::Frac;
@@ -14,6 +15,10 @@ impl Exact for Frac {
     ghost parts = { λ x. real_alone (fraction_of x) };
 
     ghost passes = { PassesAs };
+
+    ghost sums_have_room = { sums_fit };
+
+    ghost differences_have_room = { differences_fit };
 
     fn zero() -> Frac {
         Frac::whole(0)
@@ -38,6 +43,10 @@ impl Exact for Frac {
 
 impl Scalar for Frac {
     ghost no_tiny = { λ x. same-refl (whole (pos 0)) };
+
+    ghost products_have_room = { products_fit };
+
+    ghost quotients_have_room = { quotients_fit };
 
     fn one() -> Frac {
         Frac::whole(1)

@@ -10,7 +10,7 @@ use Rattle.xc_elements.specs.Documents.{Piece, AreItems, joined, Cuts, begins, b
 use Rattle.xc_elements.specs.Elements.{is_unbalanced, is_unfinished, is_too_deep, has_no_space, has_same_attribute}
 use Rattle.xc_elements.specs.Reading.{IsFine, IsRefused}
 use Rattle.xc_elements.specs.Faults.{refused_at}
-use Rattle.xc_elements.specs.DocumentTrees.{meanings, backward, HasAt, EndsAt, Stands, place_of, rank_of, IsBefore, IsFirstFault, IsRefusal}
+use Rattle.xc_elements.specs.DocumentTrees.{meanings, backward, HasAt, EndsAt, Stands, byte_of, rank_of, IsBefore, IsFirstFault, IsRefusal}
 use Rattle.xc_elements.specs.declared.fault.TreeFault.{TreeFault}
 use Rattle.xc_elements.specs.declared.fault.TreeFault.TheVariants as faults
 use Rattle.xc_elements.specs.declared.refusal.Refusal.{Refusal}
@@ -165,7 +165,7 @@ has_behind bytes rest place p test t of h =
     has_compared bytes rest place p test t of h b (compared_cuts (text_of bytes) t.pieces h.pieces rest (h.piece.text ++ h.rest) t.cut b.cut)
 
 -- no fault stands before the place
-pub none_before : (bytes rest : List ℕ) (place : ℕ) → FineTo bytes rest place → (other : TreeFault) → Stands bytes other → place ≤ place_of other
+pub none_before : (bytes rest : List ℕ) (place : ℕ) → FineTo bytes rest place → (other : TreeFault) → Stands bytes other → place ≤ byte_of other
 none_before bytes rest place t faults.Memory st = absurd st
 none_before bytes rest place t (faults.NotUtf8 p) st = absurd (st.0 t.utf8)
 none_before bytes rest place t (faults.NotItem p) st = stops_behind bytes rest place p false t st
@@ -220,7 +220,7 @@ above_none bytes (faults.NoSpace p) u st = omega arith
 above_none bytes (faults.SameAttribute p) u st = omega arith
 
 -- a fault of the place at which an item stands, by what the item is known not to have
-above_items : (bytes rest : List ℕ) (place : ℕ) (t : FineTo bytes rest place) (m : Meaning) (other : TreeFault) → ItemAt bytes rest place t m → place_of other ≡ place → Stands bytes other → 2 ≤ rank_of other
+above_items : (bytes rest : List ℕ) (place : ℕ) (t : FineTo bytes rest place) (m : Meaning) (other : TreeFault) → ItemAt bytes rest place t m → byte_of other ≡ place → Stands bytes other → 2 ≤ rank_of other
 above_items bytes rest place t m faults.Memory i e st = absurd st
 above_items bytes rest place t m (faults.NotUtf8 p) i e st = absurd (st.0 t.utf8)
 above_items bytes rest place t m (faults.NotItem p) i e st = absurd (item_no_stop bytes rest place false t m i (subst (λ n. StopsAt bytes n false) e st))
@@ -234,7 +234,7 @@ above_items bytes rest place t m (faults.SameAttribute p) i e st = omega arith
 cleared : (bytes rest : List ℕ) (place p : ℕ) (t : FineTo bytes rest place) (m : Meaning) (test : List Meaning → Meaning → Bool) → ItemAt bytes rest place t m → p ≡ place → test (backward t.pieces) m ≡ false → HasAt bytes p test → ⊥
 cleared bytes rest place p t m test i e clear st = never (test (backward t.pieces) m) clear (item_has bytes rest place t m test i (subst (λ n. HasAt bytes n test) e st))
 
-above_unbalanced : (bytes rest : List ℕ) (place : ℕ) (t : FineTo bytes rest place) (m : Meaning) (other : TreeFault) → ItemAt bytes rest place t m → is_unbalanced (backward t.pieces) m ≡ false → place_of other ≡ place → Stands bytes other → 3 ≤ rank_of other
+above_unbalanced : (bytes rest : List ℕ) (place : ℕ) (t : FineTo bytes rest place) (m : Meaning) (other : TreeFault) → ItemAt bytes rest place t m → is_unbalanced (backward t.pieces) m ≡ false → byte_of other ≡ place → Stands bytes other → 3 ≤ rank_of other
 above_unbalanced bytes rest place t m (faults.Unbalanced p) i c e (inl st) = absurd (cleared bytes rest place p t m is_unbalanced i e c st)
 above_unbalanced bytes rest place t m (faults.Unbalanced p) i c e (inr st) = absurd (item_no_end bytes rest place t m i (subst (λ n. EndsAt bytes n) e st))
 above_unbalanced bytes rest place t m (faults.TooDeep p) i c e st = omega arith
@@ -245,7 +245,7 @@ above_unbalanced bytes rest place t m (faults.NotUtf8 p) i c e st = absurd (st.0
 above_unbalanced bytes rest place t m (faults.NotItem p) i c e st = absurd (item_no_stop bytes rest place false t m i (subst (λ n. StopsAt bytes n false) e st))
 above_unbalanced bytes rest place t m (faults.Doctype p) i c e st = absurd (item_no_stop bytes rest place true t m i (subst (λ n. StopsAt bytes n true) e st))
 
-above_deep : (bytes rest : List ℕ) (place : ℕ) (t : FineTo bytes rest place) (m : Meaning) (other : TreeFault) → ItemAt bytes rest place t m → is_too_deep (backward t.pieces) m ≡ false → place_of other ≡ place → Stands bytes other → 3 ≤ rank_of other → 4 ≤ rank_of other
+above_deep : (bytes rest : List ℕ) (place : ℕ) (t : FineTo bytes rest place) (m : Meaning) (other : TreeFault) → ItemAt bytes rest place t m → is_too_deep (backward t.pieces) m ≡ false → byte_of other ≡ place → Stands bytes other → 3 ≤ rank_of other → 4 ≤ rank_of other
 above_deep bytes rest place t m (faults.TooDeep p) i c e st h = absurd (cleared bytes rest place p t m is_too_deep i e c st)
 above_deep bytes rest place t m (faults.NoSpace p) i c e st h = omega arith
 above_deep bytes rest place t m (faults.SameAttribute p) i c e st h = omega arith
@@ -255,7 +255,7 @@ above_deep bytes rest place t m (faults.NotUtf8 p) i c e st h = absurd (omega (a
 above_deep bytes rest place t m (faults.NotItem p) i c e st h = absurd (omega (arith, h))
 above_deep bytes rest place t m (faults.Doctype p) i c e st h = absurd (omega (arith, h))
 
-above_space : (bytes rest : List ℕ) (place : ℕ) (t : FineTo bytes rest place) (m : Meaning) (other : TreeFault) → ItemAt bytes rest place t m → has_no_space (backward t.pieces) m ≡ false → place_of other ≡ place → Stands bytes other → 4 ≤ rank_of other → 5 ≤ rank_of other
+above_space : (bytes rest : List ℕ) (place : ℕ) (t : FineTo bytes rest place) (m : Meaning) (other : TreeFault) → ItemAt bytes rest place t m → has_no_space (backward t.pieces) m ≡ false → byte_of other ≡ place → Stands bytes other → 4 ≤ rank_of other → 5 ≤ rank_of other
 above_space bytes rest place t m (faults.NoSpace p) i c e st h = absurd (cleared bytes rest place p t m has_no_space i e c st)
 above_space bytes rest place t m (faults.SameAttribute p) i c e st h = omega arith
 above_space bytes rest place t m (faults.TooDeep p) i c e st h = absurd (omega (arith, h))
@@ -267,12 +267,12 @@ above_space bytes rest place t m (faults.Doctype p) i c e st h = absurd (omega (
 
 -- ---- the first fault
 
-not_before : (bytes rest : List ℕ) (place : ℕ) (t : FineTo bytes rest place) (fault other : TreeFault) → place_of fault ≡ place → Stands bytes other → (place_of other ≡ place → rank_of fault ≤ rank_of other) → IsBefore other fault → ⊥
+not_before : (bytes rest : List ℕ) (place : ℕ) (t : FineTo bytes rest place) (fault other : TreeFault) → byte_of fault ≡ place → Stands bytes other → (byte_of other ≡ place → rank_of fault ≤ rank_of other) → IsBefore other fault → ⊥
 not_before bytes rest place t fault other e so least (inl less) = omega (arith, none_before bytes rest place t other so, less)
 not_before bytes rest place t fault other e so least (inr both) = omega (arith, least (both.0 ∙ e), both.1)
 
 -- none comes before a fault of the place, if none of the place does
-first_at : (bytes rest : List ℕ) (place : ℕ) (t : FineTo bytes rest place) (fault : TreeFault) → place_of fault ≡ place → Stands bytes fault → ((other : TreeFault) → place_of other ≡ place → Stands bytes other → rank_of fault ≤ rank_of other) → IsFirstFault bytes fault
+first_at : (bytes rest : List ℕ) (place : ℕ) (t : FineTo bytes rest place) (fault : TreeFault) → byte_of fault ≡ place → Stands bytes fault → ((other : TreeFault) → byte_of other ≡ place → Stands bytes other → rank_of fault ≤ rank_of other) → IsFirstFault bytes fault
 first_at bytes rest place t fault e st least = record { stands = st; first = λ other so before. not_before bytes rest place t fault other e so (λ same. least other same so) before }
 
 stopped : (bytes rest : List ℕ) (place : ℕ) (t : FineTo bytes rest place) (k : Bool) → rest ≢ [] → item (begins true t.pieces) rest ≡ None → begins_doctype rest ≡ k → StopsAt bytes place k
@@ -317,7 +317,7 @@ first_refused bytes rest place t m refusals.SameAttribute i r =
 no_stop_behind : (bytes : List ℕ) (p : ℕ) (k : Bool) → length bytes ≤ p → StopsAt bytes p k → ⊥
 no_stop_behind bytes p k h st = omega (arith, h, st.here, no_bytes st.rest st.stops.more)
 
-above_end : (bytes : List ℕ) (other : TreeFault) → IsUtf8 bytes → place_of other ≡ length bytes → Stands bytes other → 2 ≤ rank_of other
+above_end : (bytes : List ℕ) (other : TreeFault) → IsUtf8 bytes → byte_of other ≡ length bytes → Stands bytes other → 2 ≤ rank_of other
 above_end bytes faults.Memory u e st = absurd st
 above_end bytes (faults.NotUtf8 p) u e st = absurd (st.0 u)
 above_end bytes (faults.NotItem p) u e st = absurd (no_stop_behind bytes p false (omega (arith, e)) st)
@@ -381,7 +381,7 @@ one_kind bytes p st su =
     cc
 
 -- faults of one place and one rank are one
-pub same_fault : (bytes : List ℕ) (f g : TreeFault) → place_of f ≡ place_of g → rank_of f ≡ rank_of g → Stands bytes f → Stands bytes g → f ≡ g
+pub same_fault : (bytes : List ℕ) (f g : TreeFault) → byte_of f ≡ byte_of g → rank_of f ≡ rank_of g → Stands bytes f → Stands bytes g → f ≡ g
 same_fault bytes faults.Memory faults.Memory e r st su = absurd st
 same_fault bytes faults.Memory (faults.NotUtf8 q) e r st su = absurd st
 same_fault bytes faults.Memory (faults.NotItem q) e r st su = absurd st

@@ -25,3 +25,4 @@ pub mod LoopLaws
 pub mod CutLaws
 pub mod DocumentLaws
 pub mod GatherLaws
+pub mod TreeLaws

@@ -49,15 +49,15 @@ Stands bytes (NoSpace place) = HasAt bytes place has_no_space
 Stands bytes (SameAttribute place) = HasAt bytes place has_same_attribute
 
 -- the byte at which a fault stands
-abbrev pub place_of : TreeFault → ℕ
-place_of Memory = 0
-place_of (NotUtf8 place) = place
-place_of (NotItem place) = place
-place_of (Doctype place) = place
-place_of (Unbalanced place) = place
-place_of (TooDeep place) = place
-place_of (NoSpace place) = place
-place_of (SameAttribute place) = place
+abbrev pub byte_of : TreeFault → ℕ
+byte_of Memory = 0
+byte_of (NotUtf8 place) = place
+byte_of (NotItem place) = place
+byte_of (Doctype place) = place
+byte_of (Unbalanced place) = place
+byte_of (TooDeep place) = place
+byte_of (NoSpace place) = place
+byte_of (SameAttribute place) = place
 
 -- the order of the faults of one place
 abbrev pub rank_of : TreeFault → ℕ
@@ -72,7 +72,7 @@ rank_of (SameAttribute place) = 5
 
 -- one fault comes before another
 abbrev pub IsBefore : TreeFault → TreeFault → Type 0
-IsBefore f g = (place_of f < place_of g) ⊎ ((place_of f ≡ place_of g) × (rank_of f < rank_of g))
+IsBefore f g = (byte_of f < byte_of g) ⊎ ((byte_of f ≡ byte_of g) × (rank_of f < rank_of g))
 
 -- the fault stands in the bytes, and none that stands there comes before it
 pub record IsFirstFault (bytes : List ℕ) (fault : TreeFault) : Type 0 where

@@ -11,3 +11,4 @@ pub mod Kept
 pub mod Reading
 pub mod Faults
 pub mod DocumentTrees
+pub mod Codes

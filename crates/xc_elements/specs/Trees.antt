@@ -3,6 +3,7 @@ use Rattle.std.specs.Prelude.{◌≡◌, ℕ, zero, suc, ◌<◌, ◌&&◌, ◌=
 use Rattle.std.specs.List.{list_any}
 use Rattle.std.specs.Option.{option_or}
 use Rattle.std.specs.Str.{bytes_eq}
+use Rattle.xc_chars.specs.Trimmed.{trimmed}
 use Rattle.xc_elements.specs.declared.nodes.Attribute.{Attribute}
 use Rattle.xc_elements.specs.declared.nodes.Node.{Node}
 
@@ -49,6 +50,10 @@ xml_space = codes "http://www.w3.org/XML/1998/namespace"
 abbrev pub declarations_space : List ℕ
 declarations_space = codes "http://www.w3.org/2000/xmlns/"
 
+-- the element has this expanded name
+abbrev pub is_element : List ℕ → List ℕ → Node → Bool
+is_element space local node = bytes_eq node.space space && bytes_eq node.local local
+
 -- the attribute has this expanded name
 abbrev pub is_named : List ℕ → List ℕ → Attribute → Bool
 is_named space local attribute = bytes_eq attribute.space space && bytes_eq attribute.local local
@@ -60,6 +65,10 @@ value_among attributes space local = option_map (λ a. a.value) (find (is_named 
 -- the value of a node's attribute with an expanded name
 abbrev pub attribute_of : List Node → ℕ → List ℕ → List ℕ → Option (List ℕ)
 attribute_of nodes node space local = option_and_then (λ n. value_among n.attributes space local) (slice_get nodes node)
+
+-- the same without the white space around it
+abbrev pub trimmed_attribute : List Node → ℕ → List ℕ → List ℕ → Option (List ℕ)
+trimmed_attribute nodes node space local = option_map trimmed (attribute_of nodes node space local)
 
 -- what the first of these nodes that declares a prefix sets it to
 abbrev pub first_declared : List Node → List ℕ → List ℕ → Option (List ℕ)

@@ -30,6 +30,43 @@ pub enum TreeFault {
     SameAttribute(u64),
 }
 
+impl TreeFault {
+    ghost use Rattle.std.specs.Prelude.{◌≡◌, option_map};
+    ghost use Rattle.xc_elements.specs.Codes.{code_of, place_of};
+
+    /// The code with which the fault is printed; None for want of memory alone.
+    pub fn code(self) -> Option<&'static str>
+        ensures { option_map (λ code. code.now) result ≡ code_of self }
+    {
+        match self {
+            TreeFault::Memory => None,
+            TreeFault::NotUtf8(_) => Some("xc:notUtf8"),
+            TreeFault::NotItem(_) => Some("xc:notItem"),
+            TreeFault::Doctype(_) => Some("xc:doctype"),
+            TreeFault::Unbalanced(_) => Some("xc:unbalanced"),
+            TreeFault::TooDeep(_) => Some("xc:tooDeep"),
+            TreeFault::NoSpace(_) => Some("xc:noSpace"),
+            TreeFault::SameAttribute(_) => Some("xc:sameAttribute"),
+        }
+    }
+
+    /// The byte at which the fault stands; None for want of memory alone.
+    pub fn place(self) -> Option<u64>
+        ensures { result ≡ place_of self }
+    {
+        match self {
+            TreeFault::Memory => None,
+            TreeFault::NotUtf8(byte)
+            | TreeFault::NotItem(byte)
+            | TreeFault::Doctype(byte)
+            | TreeFault::Unbalanced(byte)
+            | TreeFault::TooDeep(byte)
+            | TreeFault::NoSpace(byte)
+            | TreeFault::SameAttribute(byte) => Some(byte),
+        }
+    }
+}
+
 impl From<ItemFault> for TreeFault {
     ghost use Rattle.std.specs.Prelude.{◌≡◌};
     ghost use Rattle.xc_elements.specs.Faults.{tree_fault};

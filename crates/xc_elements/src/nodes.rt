@@ -1,7 +1,7 @@
 // The nodes of trees.
 ghost use Rattle.std.specs.Prelude.{◌≡◌, ◌&&◌, option_map};
 ghost use Rattle.std.specs.Str.{bytes_eq};
-ghost use Rattle.xc_elements.specs.Trees.{is_named, value_among};
+ghost use Rattle.xc_elements.specs.Trees.{is_element, is_named, value_among};
 
 use xc_lists::{Items, Text};
 
@@ -32,6 +32,15 @@ pub struct Node {
     pub end: u32,
     /// The text directly in it: letters, references and sections, with each end of a line as a line feed.
     pub text: Text,
+}
+
+impl Node {
+    /// Whether the element has this expanded name.
+    pub fn is(&self, space: &str, local: &str) -> bool
+        ensures { result ≡ is_element space.now local.now self.now }
+    {
+        self.space.as_str() == space && self.local.as_str() == local
+    }
 }
 
 /// Whether the attribute has this expanded name.

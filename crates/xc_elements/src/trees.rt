@@ -1,9 +1,10 @@
 // Trees of elements.
-ghost use Rattle.std.specs.Prelude.{◌≡◌, ◌<◌, length, option_map, option_and_then};
-ghost use Rattle.xc_elements.specs.Trees.{IsTree, path, attribute_of, first_declared, not_empty, space_in_scope};
+ghost use Rattle.std.specs.Prelude.{◌≡◌, ◌<◌, IfSome, length, option_map, option_and_then};
+ghost use Rattle.xc_elements.specs.Trees.{IsTree, path, parent_of, attribute_of, trimmed_attribute, first_declared, not_empty, space_in_scope};
 
 use crate::nodes::{Node, value_among};
 use std::marker::Model;
+use xc_chars::trimmed;
 use xc_lists::Items;
 
 /// The namespace of the prefix `xml`.
@@ -50,6 +51,26 @@ impl Tree {
         self.nodes.as_slice()
     }
 
+    /// How many elements there are.
+    pub fn count(&self) -> u32
+        ensures { result ≡ length self.now }
+    {
+        let nodes = self.nodes();
+        // The root's end is behind all others, so the number of elements is that of a u32.
+        let end = nodes[0].end;
+        prove!(nodes.len() <= end.max(1) as usize);
+        nodes.len() as u32
+    }
+
+    /// The number of the element that an element stands directly in; None for the root alone.
+    pub fn parent_of(&self, node: u32) -> Option<u32>
+        requires { node < length self.now }
+        ensures parent { result ≡ parent_of self.now node }
+        ensures earlier { IfSome result (λ parent. parent < node) }
+    {
+        self.nodes()[node as usize].parent
+    }
+
     /// The value of an element's attribute with this expanded name.
     pub fn attribute(&self, node: u32, space: &str, local: &str) -> Option<&str>
         requires { node < length self.now }
@@ -60,6 +81,17 @@ impl Tree {
             space,
             local,
         )
+    }
+
+    /// The same without the white space around it: spaces, tabs, line feeds and carriage returns.
+    pub fn trimmed_attribute(&self, node: u32, space: &str, local: &str) -> Option<&str>
+        requires { node < length self.now }
+        ensures { option_map (λ value. value.now) result ≡ trimmed_attribute self.now node space.now local.now }
+    {
+        match self.attribute(node, space, local) {
+            Some(value) => Some(trimmed(value)),
+            None => None,
+        }
     }
 
     /// The namespace that a prefix stands for at an element, as the nearest declaration on the path from the root sets it. The

@@ -1,5 +1,5 @@
 use Rattle.std.proofs.Common.{◌≡◌, inl, inr, ℕ, ◌<◌, List, arith, sym}
-use Rattle.xc_elements.specs.DocumentTrees.{IsFirstFault, place_of, rank_of}
+use Rattle.xc_elements.specs.DocumentTrees.{IsFirstFault, byte_of, rank_of}
 use Rattle.xc_elements.specs.declared.fault.TreeFault.{TreeFault}
 use Rattle.xc_elements.proofs.FaultLaws.{same_fault}
 use Rattle.xc_elements.proofs.laws.one_first_fault.Goals as goal
@@ -8,8 +8,8 @@ use Rattle.xc_elements.proofs.laws.one_first_fault.Goals as goal
 neither_less : (m n : ℕ) → (m < n → ⊥) → (n < m → ⊥) → m ≡ n
 neither_less m n g h = grind arith
 
-same_place : (bytes : List ℕ) (f g : TreeFault) → IsFirstFault bytes f → IsFirstFault bytes g → place_of f ≡ place_of g
-same_place bytes f g a b = neither_less (place_of f) (place_of g) (λ less. b.first f a.stands (inl less)) (λ less. a.first g b.stands (inl less))
+same_place : (bytes : List ℕ) (f g : TreeFault) → IsFirstFault bytes f → IsFirstFault bytes g → byte_of f ≡ byte_of g
+same_place bytes f g a b = neither_less (byte_of f) (byte_of g) (λ less. b.first f a.stands (inl less)) (λ less. a.first g b.stands (inl less))
 
 same_rank : (bytes : List ℕ) (f g : TreeFault) → IsFirstFault bytes f → IsFirstFault bytes g → rank_of f ≡ rank_of g
 same_rank bytes f g a b =

@@ -5,7 +5,7 @@ use Rattle.std.specs.List.{position_from}
 use Rattle.std.specs.Str.{bytes_eq}
 use Rattle.std.proofs.lemmas.Bool.{and_parts}
 use Rattle.std.proofs.lemmas.Option.{slice_get_within}
-use Rattle.xc_names.specs.Laws.{NumbersTellNames, NumbersArePlaces}
+use Rattle.xc_names.specs.Laws.{NumbersTellNames, NumbersArePlaces, NamesStandAtNumbers}
 use Rattle.xc_names.specs.Names.{name_of, is_named, number_of}
 use Rattle.xc_names.specs.declared.expanded.Expanded.{Expanded}
 
@@ -38,7 +38,7 @@ same_name s l name e =
     λ i. record { space = sym ((bytes_eq-Decides s name.space).0 h.0) i; local = sym ((bytes_eq-Decides l name.local).0 h.1) i }
 
 -- the name with a number stands at its place
-pub at_number : (names : List Expanded) (s l : List ℕ) (n : ℕ) → number_of s l names ≡ Some n → slice_get names n ≡ Some (name_of s l)
+at_number : (names : List Expanded) (s l : List ℕ) (n : ℕ) → number_of s l names ≡ Some n → slice_get names n ≡ Some (name_of s l)
 at_number names s l n e =
     let f = found_at (is_named s l) 0 n names e in
     let place : n ≡ f.from = omega (arith, f.place) in
@@ -60,3 +60,6 @@ numbers_are_places names s l n own = (
   at_number names s l n,
   λ e. own n (name_of s l) e,
 )
+
+pub names_stand_at_numbers : NamesStandAtNumbers
+names_stand_at_numbers names s l n e = (number_within names s l n e, at_number names s l n e)

@@ -7,7 +7,7 @@ use Rattle.std.specs.HashMap.{HashMap, UpdatesBy, get_by_text}
 use Rattle.std.specs.Str.{bytes_eq}
 use Rattle.std.specs.String.{string_eq}
 use Rattle.xc_names.specs.Names.{name_of, is_named}
-use Rattle.xc_names.specs.Numbers.{number_in}
+use Rattle.xc_names.specs.Steps.Numbers.{number_in}
 
 -- texts that are equal one way are equal the other way
 turned : (a b : List ℕ) → bytes_eq a b ≡ bytes_eq b a

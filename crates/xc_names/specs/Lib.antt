@@ -1,6 +1,7 @@
+pub mod Codes
 pub mod Expansion
 pub mod Laws
 pub mod NameSets
 pub mod Names
-pub mod Numbers
+pub mod Steps
 pub mod Prefixes

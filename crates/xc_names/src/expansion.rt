@@ -22,6 +22,21 @@ pub enum NameFault {
     NoPrefix,
 }
 
+impl NameFault {
+    ghost use Rattle.std.specs.Prelude.{◌≡◌, option_map};
+    ghost use Rattle.xc_names.specs.Codes.{code_of};
+
+    /// The code with which the fault of a name that `sum` is given is printed; None for want of memory alone.
+    pub fn code(self) -> Option<&'static str>
+        ensures { option_map (λ code. code.now) result ≡ code_of self }
+    {
+        match self {
+            NameFault::Memory => None,
+            NameFault::NotName | NameFault::NoPrefix => Some("xc:badSumName"),
+        }
+    }
+}
+
 impl From<Memory> for NameFault {
     ghost from_gives = { λ _ e. e ≡ Memory };
 

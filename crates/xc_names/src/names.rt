@@ -23,7 +23,7 @@ impl Model for Names {
     ghost use Rattle.std.specs.Prelude.{◌≡◌, List, ℕ};
     ghost use Rattle.xc_names.specs.declared.expanded.Expanded.{Expanded as Name};
     ghost use Rattle.xc_names.specs.Names.{number_of, AreNumbered};
-    ghost use Rattle.xc_names.specs.Numbers.{number_in};
+    ghost use Rattle.xc_names.specs.Steps.Numbers.{number_in};
 
     ghost Value = { List Name };
 

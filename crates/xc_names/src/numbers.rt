@@ -4,7 +4,7 @@ ghost use Rattle.std.specs.Prelude.{◌≡◌, ℕ, List, Some, cond, is_some, t
 ghost use Rattle.std.specs.HashMap.{get_by_text};
 ghost use Rattle.std.specs.Str.{bytes_eq};
 ghost use Rattle.xc_names.specs.Names.{name_of, is_named};
-ghost use Rattle.xc_names.specs.Numbers.{number_in};
+ghost use Rattle.xc_names.specs.Steps.Numbers.{number_in};
 
 use indexmap::IndexMap;
 use std::alloc::Global;

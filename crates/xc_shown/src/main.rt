@@ -1,0 +1,29 @@
+//! Prints what the readers of documents make of the cases in its data: a word for each file, which
+//! names its subject. What is to be printed stands in `stdout`.
+#![tactic(auto)]
+
+mod cases;
+mod trees;
+
+use cases::Part;
+use std::alloc::{AllocError, Global};
+use std::{env, fs, io};
+
+fn main(rt: HostRuntime) -> io::Result<()> {
+    for word in env::args(&rt)?.skip(1) {
+        let file = fs::read_to_string(&rt, word.as_str())?;
+        let parts = cases::parts(rt.alloc(), file.as_str())?;
+        let shown = show(rt.alloc(), word.as_str(), parts.as_slice())?;
+        rt.print(shown.as_str())?;
+    }
+    Ok(())
+}
+
+// What the readers of a subject make of its cases.
+fn show(alloc: Global, subject: &str, parts: &[Part]) -> Result<String, AllocError> {
+    if subject == "trees" {
+        trees::show(alloc, parts)
+    } else {
+        Ok(String::new(alloc))
+    }
+}

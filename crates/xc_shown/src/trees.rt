@@ -1,0 +1,150 @@
+// Trees of documents, and the first faults of those that have none.
+//
+// Each line of a part's text is a document, in which a backslash and a letter stand for bytes that
+// would not be seen. Under `= items` a document is only cut into items.
+
+use crate::cases::Part;
+use std::alloc::{AllocError, Global};
+use xc_elements::{Node, Tree, TreeFault, item_fault, read_tree};
+
+/// Each document, and behind it a line for each element of its tree: the number of its parent, that
+/// behind its last descendant, its expanded name, its attributes, and behind `|` its text; or the
+/// fault.
+pub fn show(alloc: Global, parts: &[Part]) -> Result<String, AllocError> {
+    let mut out = String::new(alloc);
+    for part in parts {
+        show_part(alloc, &mut out, part)?;
+    }
+    Ok(out)
+}
+
+fn show_part(alloc: Global, out: &mut String, part: &Part) -> Result<(), AllocError> {
+    let items_alone = part.words.as_str() == "items";
+    for line in part.text.as_str().lines() {
+        out.push_str(line)?;
+        out.push('\n')?;
+        let document = unescaped(alloc, line)?;
+        if items_alone {
+            show_items(alloc, out, document.as_slice())?;
+        } else {
+            show_document(alloc, out, document.as_slice())?;
+        }
+    }
+    Ok(())
+}
+
+fn show_items(alloc: Global, out: &mut String, document: &[u8]) -> Result<(), AllocError> {
+    match item_fault(document) {
+        Some(fault) => show_fault(alloc, out, TreeFault::from(fault)),
+        None => out.push_str("  items\n"),
+    }
+}
+
+fn show_document(alloc: Global, out: &mut String, document: &[u8]) -> Result<(), AllocError> {
+    if document.len() >= 1_000_000 {
+        return out.push_str("  too long\n");
+    }
+    match read_tree(alloc, document) {
+        Ok(tree) => show_tree(alloc, out, &tree),
+        Err(fault) => show_fault(alloc, out, fault),
+    }
+}
+
+fn show_fault(alloc: Global, out: &mut String, fault: TreeFault) -> Result<(), AllocError> {
+    let code = fault.code().unwrap_or("no memory");
+    let byte = fault.place().unwrap_or(0);
+    out.push_str(format!(in alloc; "  {code} {byte}\n")?.as_str())
+}
+
+fn show_tree(alloc: Global, out: &mut String, tree: &Tree) -> Result<(), AllocError> {
+    for node in tree.nodes() {
+        show_node(alloc, out, node)?;
+    }
+    Ok(())
+}
+
+fn show_node(alloc: Global, out: &mut String, node: &Node) -> Result<(), AllocError> {
+    match node.parent {
+        Some(parent) => out.push_str(format!(in alloc; "  {parent}")?.as_str())?,
+        None => out.push_str("  -")?,
+    }
+    out.push_str(format!(in alloc; " {} ", node.end)?.as_str())?;
+    show_name(out, node.space.as_str(), node.local.as_str())?;
+    show_attributes(out, node)?;
+    out.push('|')?;
+    show_text(out, node.text.as_str())?;
+    out.push('\n')
+}
+
+fn show_attributes(out: &mut String, node: &Node) -> Result<(), AllocError> {
+    for attribute in node.attributes.as_slice() {
+        out.push(' ')?;
+        show_name(out, attribute.space.as_str(), attribute.local.as_str())?;
+        out.push('=')?;
+        show_text(out, attribute.value.as_str())?;
+    }
+    Ok(())
+}
+
+fn show_name(out: &mut String, space: &str, local: &str) -> Result<(), AllocError> {
+    if !space.is_empty() {
+        out.push('{')?;
+        out.push_str(space)?;
+        out.push('}')?;
+    }
+    out.push_str(local)
+}
+
+// A text, with a backslash and a letter for each character that would not be seen.
+fn show_text(out: &mut String, text: &str) -> Result<(), AllocError> {
+    for c in text.chars() {
+        match c {
+            '\n' => out.push_str("\\n")?,
+            '\r' => out.push_str("\\r")?,
+            '\t' => out.push_str("\\t")?,
+            _ => out.push(c)?,
+        }
+    }
+    Ok(())
+}
+
+// The bytes of a line of the data.
+fn unescaped(alloc: Global, line: &str) -> Result<Vec<u8>, AllocError> {
+    let mut bytes = Vec::new(alloc);
+    let mut is_escape = false;
+    for piece in line.split('\\') {
+        let text = if is_escape {
+            put_escape(&mut bytes, piece)?
+        } else {
+            piece
+        };
+        bytes.extend_from_slice(text.as_bytes())?;
+        is_escape = true;
+    }
+    Ok(bytes)
+}
+
+// Puts the bytes that a letter stands for, and hands on what follows it.
+fn put_escape<'a>(bytes: &mut Vec<u8>, piece: &'a str) -> Result<&'a str, AllocError> {
+    let mut rest = piece.chars();
+    if let Some(letter) = rest.next() {
+        bytes.extend_from_slice(bytes_of(letter))?;
+    }
+    Ok(rest.as_str())
+}
+
+fn bytes_of(letter: char) -> &'static [u8] {
+    match letter {
+        'n' => b"\n".as_slice(),
+        'r' => b"\r".as_slice(),
+        't' => b"\t".as_slice(),
+        // a byte order mark
+        'm' => b"\xEF\xBB\xBF".as_slice(),
+        // a control character
+        'c' => b"\x01".as_slice(),
+        // the first of two bytes
+        'h' => b"\xC3".as_slice(),
+        // a byte that no text has
+        _ => b"\xFF".as_slice(),
+    }
+}

@@ -1,4 +1,5 @@
 pub mod Chains
+pub mod Codes
 pub mod Declarations
 pub mod Held
 pub mod Laws

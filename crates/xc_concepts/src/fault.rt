@@ -1,4 +1,5 @@
-ghost use Rattle.std.specs.Prelude.{◌≡◌};
+ghost use Rattle.std.specs.Prelude.{◌≡◌, option_map};
+ghost use Rattle.xc_concepts.specs.Codes.{code_of, place_of};
 ghost use Rattle.xc_concepts.specs.declared.fault.SchemaFault.TheVariants.{Memory};
 
 use std::alloc::AllocError;
@@ -17,6 +18,33 @@ pub enum SchemaFault {
     SameId(u32),
     /// The concept's name was declared before.
     SameConcept(u32),
+}
+
+impl SchemaFault {
+    /// The code that is printed; None for want of memory alone.
+    pub fn code(self) -> Option<&'static str>
+        ensures { option_map (λ code. code.now) result ≡ code_of self }
+    {
+        match self {
+            SchemaFault::Memory => None,
+            SchemaFault::SameFile => Some("xc:sameFile"),
+            SchemaFault::BadPrefix(_) => Some("xc:badPrefix"),
+            SchemaFault::SameId(_) => Some("xc:sameId"),
+            SchemaFault::SameConcept(_) => Some("xc:sameConcept"),
+        }
+    }
+
+    /// The number of the node at which a rule is broken, where the fault has one.
+    pub fn place(self) -> Option<u32>
+        ensures { result ≡ place_of self }
+    {
+        match self {
+            SchemaFault::Memory | SchemaFault::SameFile => None,
+            SchemaFault::BadPrefix(at) | SchemaFault::SameId(at) | SchemaFault::SameConcept(at) => {
+                Some(at)
+            }
+        }
+    }
 }
 
 impl From<AllocError> for SchemaFault {

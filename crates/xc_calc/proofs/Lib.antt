@@ -2,5 +2,4 @@ pub mod Drawing
 pub mod Filtered
 pub mod Integers
 pub mod OneAnswer
-pub mod Paths
 pub mod Roles

@@ -10,7 +10,8 @@ use Rattle.std.specs.Ordering.{nat_cmp}
 use Rattle.std.specs.Str.{bytes_eq}
 use Rattle.std.specs.declared.cmp.Ordering.TheVariants.{Less}
 use Rattle.xc_calc.specs.Effective.{effective_arcs}
-use Rattle.xc_calc.specs.Networks.{by_bytes, has_role, some_role, arcs_of, AreNetworks}
+use Rattle.xc_calc.specs.Networks.{has_role, some_role, arcs_of, AreNetworks}
+use Rattle.xc_calc.specs.Steps.{by_bytes}
 use Rattle.xc_calc.specs.declared.arc.ListedArc.{ListedArc}
 use Rattle.xc_calc.specs.declared.arc.Network.{Network}
 use Rattle.xc_lists.proofs.Anys.{any_map, any_put_in, any_step}

@@ -1,8 +1,8 @@
 -- The locators at the ends of an arc element, and the concepts that they name.
-use Rattle.std.specs.Prelude.{◌==◌, ℕ, Bool, nat_lt, List, [], ◌∷◌, codes, filter, length, Option, Some, None, option_map, option_and_then, if◌then◌else◌}
-use Rattle.std.specs.List.{list_any, position_or_len, before_first, after_first}
+use Rattle.std.specs.Prelude.{ℕ, List, [], codes, filter, Option, option_map, option_and_then}
 use Rattle.std.specs.Option.{option_map_or}
 use Rattle.xc_calc.specs.Linkbases.{is_locator, xlink_at}
+use Rattle.xc_chars.specs.Parts.{is_hash, around, file_name}
 use Rattle.xc_concepts.specs.Held.{number_by_id}
 use Rattle.xc_lists.specs.Places.{places}
 use Rattle.xc_concepts.specs.declared.schema.Schema.{Schema}
@@ -10,25 +10,7 @@ use Rattle.xc_elements.specs.Trees.{parent_of}
 use Rattle.xc_elements.specs.declared.nodes.Node.{Node}
 use Rattle.xc_names.specs.declared.expanded.NameId.{NameId}
 
-abbrev pub is_hash : ℕ → Bool
-is_hash byte = byte == 35
-
-abbrev pub is_slash : ℕ → Bool
-is_slash byte = byte == 47
-
--- what stands before the first `#` of an href, and after it: RFC 3986, section 3.5
-abbrev pub around_hash : List ℕ → Option (List ℕ × List ℕ)
-around_hash href = if nat_lt (position_or_len is_hash href) (length href) then Some (before_first is_hash href, after_first is_hash href) else None
-
--- what stands after the first `/`
-abbrev pub after_slash : List ℕ → Option (List ℕ)
-after_slash path = if nat_lt (position_or_len is_slash path) (length path) then Some (after_first is_slash path) else None
-
--- what stands after the last `/`, and the whole where there is none: the longest end without a `/`
-abbrev pub file_name : List ℕ → List ℕ
-file_name [] = []
-file_name (byte ∷ bytes) = if list_any is_slash (byte ∷ bytes) then file_name bytes else byte ∷ bytes
-
+-- a number as that of a name
 abbrev pub name_id : ℕ → NameId
 name_id number = record { 0 = number }
 
@@ -36,9 +18,9 @@ name_id number = record { 0 = number }
 abbrev pub concept_by : List Schema → List ℕ × List ℕ → Option NameId
 concept_by schemas parts = option_map name_id (number_by_id schemas (file_name parts.0) parts.1)
 
--- the concept that an href names: XBRL 2.1, section 3.5.3.7
+-- the concept that an href names: XBRL 2.1, section 3.5.3.7; its fragment stands behind the first `#`: RFC 3986, section 3.5
 abbrev pub resolved : List Schema → List ℕ → Option NameId
-resolved schemas href = option_and_then (concept_by schemas) (around_hash href)
+resolved schemas href = option_and_then (concept_by schemas) (around is_hash href)
 
 -- the concept that a locator names
 abbrev pub located : List Schema → List Node → ℕ → Option NameId

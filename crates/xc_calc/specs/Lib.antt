@@ -1,4 +1,5 @@
 pub mod Attributes
+pub mod Codes
 pub mod Effective
 pub mod Ends
 pub mod Laws
@@ -6,4 +7,5 @@ pub mod Linkbases
 pub mod Linked
 pub mod Networks
 pub mod Rules
+pub mod Steps
 pub mod Wanted

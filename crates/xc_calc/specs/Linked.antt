@@ -7,11 +7,11 @@ use Rattle.xc_calc.specs.Linkbases.{is_chosen, role_at}
 use Rattle.xc_calc.specs.declared.arc.ArcKind.{ArcKind}
 use Rattle.xc_calc.specs.declared.arc.ListedArc.{ListedArc}
 use Rattle.xc_calc.specs.declared.arc.Use.{Use}
-use Rattle.xc_calc.specs.declared.drawn.Drawn.{Drawn}
 use Rattle.xc_lists.specs.Places.{places}
 use Rattle.xc_concepts.specs.declared.schema.Schema.{Schema}
 use Rattle.xc_decimal.specs.Shortest.{Shortest}
 use Rattle.xc_elements.specs.Trees.{parent_of}
+use Rattle.xc_elements.specs.declared.nodes.Attribute.{Attribute}
 use Rattle.xc_elements.specs.declared.nodes.Node.{Node}
 use Rattle.xc_names.specs.declared.expanded.NameId.{NameId}
 
@@ -27,6 +27,15 @@ empty_of kind = record { kind = kind; arcs = [] }
 -- with more arcs at the end
 abbrev pub with_arcs : Linked → List ListedArc → Linked
 with_arcs linked more = record { kind = linked.kind; arcs = linked.arcs ++ more }
+
+-- what an arc element says of each of its arcs
+pub record Drawn : Type 0 where
+  pub role : List ℕ
+  pub weight : Shortest
+  pub order : Shortest
+  pub others : List Attribute
+  pub priority : ℤ
+  pub usage : Use
 
 -- the role of the extended link around an arc element
 abbrev pub role_around : List Node → ℕ → List ℕ

@@ -1,20 +1,14 @@
 -- The networks of effective arcs, by role: XBRL 2.1, section 3.5.3.9.7.3.
 use Rattle.std.specs.Prelude.{◌≡◌, ℕ, Bool, List, map, filter}
-use Rattle.std.specs.Borrow.{Bor}
 use Rattle.std.specs.Cmp.Lexicographic.{slice_cmp}
 use Rattle.std.specs.List.{list_any}
 use Rattle.std.specs.List.Sorted.{IsStrictlySortedBy}
 use Rattle.std.specs.Ordering.{nat_cmp}
 use Rattle.std.specs.Str.{bytes_eq}
-use Rattle.std.specs.declared.cmp.Ordering.{Ordering}
 use Rattle.xc_calc.specs.Effective.{effective_arcs}
 use Rattle.xc_calc.specs.declared.arc.Arc.{Arc}
 use Rattle.xc_calc.specs.declared.arc.ListedArc.{ListedArc}
 use Rattle.xc_calc.specs.declared.arc.Network.{Network}
-
--- lent texts in the order of their bytes
-abbrev pub by_bytes : Bor (List ℕ) → Bor (List ℕ) → Ordering
-by_bytes a b = slice_cmp nat_cmp a.now b.now
 
 -- the arc has this role
 abbrev pub has_role : List ℕ → ListedArc → Bool

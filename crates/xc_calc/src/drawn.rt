@@ -3,6 +3,7 @@ ghost use Rattle.std.specs.Prelude.{◌≡◌, ◌<◌, ◌⊎◌, Some, None, l
 ghost use Rattle.xc_calc.specs.Attributes.{is_zero};
 ghost use Rattle.xc_calc.specs.Linked.{role_around, drawn_at};
 ghost use Rattle.xc_calc.specs.Rules.{attribute_fault};
+ghost use Rattle.xc_calc.specs.Steps.{drawn_view};
 
 use crate::arc::Use;
 use crate::attributes::{order_at, others_at, priority_at, use_at, weight_at};
@@ -46,7 +47,7 @@ fn role_around(alloc: Global, tree: &Tree, at: u32) -> Result<Text, Memory>
 /// What the arc element at this place says of its arcs, or the first rule that its attributes break.
 pub(crate) fn drawn_at(alloc: Global, tree: &Tree, at: u32) -> Result<Drawn, LinkFault>
     requires { at < length tree.now }
-    ensures drawn { IfOk result (λ drawn. drawn_at tree.now at ≡ Some drawn) }
+    ensures drawn { IfOk result (λ drawn. drawn_at tree.now at ≡ Some (drawn_view drawn)) }
     ensures sound { OnOk result (attribute_fault tree.now at ≡ None) }
     ensures fault { IfErr result (λ e. (e ≡ LinkFault.Memory) ⊎ (attribute_fault tree.now at ≡ Some e)) }
 {

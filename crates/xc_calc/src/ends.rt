@@ -1,50 +1,20 @@
 // The locators at the ends of an arc element, and the concepts that they name.
-ghost use Rattle.std.specs.Prelude.{◌≡◌, ◌<◌, length, option_map, IfOk};
-ghost use Rattle.xc_calc.specs.Ends.{around_hash, after_slash, file_name, resolved, located, locators, end_at};
-ghost use Rattle.xc_chars.specs.PlainNames.{pair_view};
+ghost use Rattle.std.specs.Prelude.{◌≡◌, ◌<◌, length, IfOk};
+ghost use Rattle.xc_calc.specs.Ends.{resolved, located, locators, end_at};
 
 use crate::elements::{is_locator, xlink_at};
 use std::alloc::Global;
+use xc_chars::{around, file_name};
 use xc_concepts::{Concepts, count, parent_of};
 use xc_elements::Tree;
 use xc_lists::Memory;
 use xc_names::NameId;
 
-// What stands before the first `#` of an href, and after it.
-fn around_hash(href: &str) -> Option<(&str, &str)>
-    ensures { option_map pair_view result ≡ around_hash href.now }
-{
-    match href.split_once('#') {
-        Some((before, after)) => Some((before, after)),
-        None => None,
-    }
-}
-
-fn after_slash(path: &str) -> Option<&str>
-    ensures { option_map (λ text. text.now) result ≡ after_slash path.now }
-{
-    match path.split_once('/') {
-        Some((_, after)) => Some(after),
-        None => None,
-    }
-}
-
-/// The name of a file without its folder: what stands after the last `/` of a path, or the whole where there is none.
-pub fn file_name(path: &str) -> &str
-    ensures { result.now ≡ file_name path.now }
-{
-    let mut name = path;
-    while let Some(after) = after_slash(name) {
-        name = after;
-    }
-    name
-}
-
 // The concept that an href names.
 fn resolved(concepts: &Concepts, href: &str) -> Option<NameId>
     ensures { result ≡ resolved concepts.now href.now }
 {
-    let Some((path, id)) = around_hash(href) else {
+    let Some((path, id)) = around(href, '#') else {
         return None;
     };
     concepts.by_id(file_name(path), id)

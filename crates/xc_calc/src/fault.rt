@@ -1,4 +1,5 @@
-ghost use Rattle.std.specs.Prelude.{◌≡◌};
+ghost use Rattle.std.specs.Prelude.{◌≡◌, option_map};
+ghost use Rattle.xc_calc.specs.Codes.{code_of, place_of};
 ghost use Rattle.xc_calc.specs.declared.fault.LinkFault.TheVariants.{Memory};
 
 use std::alloc::AllocFailed;
@@ -27,6 +28,44 @@ pub enum LinkFault {
     UnknownType(u32),
     /// Its concept is not decimal.
     NodeNotDecimal(u32),
+}
+
+impl LinkFault {
+    /// The code that is printed; None for want of memory alone.
+    pub fn code(self) -> Option<&'static str>
+        ensures { option_map (λ code. code.now) result ≡ code_of self }
+    {
+        match self {
+            LinkFault::Memory => None,
+            LinkFault::BadWeight(_) => Some("xc:badWeight"),
+            LinkFault::ZeroWeight(_) => Some("xc:zeroWeight"),
+            LinkFault::BadOrder(_) => Some("xc:badOrder"),
+            LinkFault::BadPriority(_) => Some("xc:badPriority"),
+            LinkFault::BadUse(_) => Some("xc:badUse"),
+            LinkFault::NoLocator(_) => Some("xc:noLocator"),
+            LinkFault::Unresolved(_) => Some("xc:unresolved"),
+            LinkFault::UnknownType(_) => Some("xc:unknownType"),
+            LinkFault::NodeNotDecimal(_) => Some("xc:nodeNotDecimal"),
+        }
+    }
+
+    /// The number of the node at which a rule is broken; None for want of memory alone.
+    pub fn place(self) -> Option<u32>
+        ensures { result ≡ place_of self }
+    {
+        match self {
+            LinkFault::Memory => None,
+            LinkFault::BadWeight(at)
+            | LinkFault::ZeroWeight(at)
+            | LinkFault::BadOrder(at)
+            | LinkFault::BadPriority(at)
+            | LinkFault::BadUse(at)
+            | LinkFault::NoLocator(at)
+            | LinkFault::Unresolved(at)
+            | LinkFault::UnknownType(at)
+            | LinkFault::NodeNotDecimal(at) => Some(at),
+        }
+    }
 }
 
 impl From<xc_lists::Memory> for LinkFault {

@@ -20,5 +20,4 @@ mod wanted;
 pub use arc::{Arc, ArcKind, ListedArc, Network, Use};
 pub use arcs::Arcs;
 pub use elements::is_linkbase;
-pub use ends::file_name;
 pub use fault::LinkFault;

@@ -3,6 +3,7 @@ ghost use Rattle.std.specs.Prelude.{◌≡◌, ◌<◌, ◌++◌, ◌⊎◌, Som
 ghost use Rattle.xc_calc.specs.Ends.{located, sources, targets};
 ghost use Rattle.xc_calc.specs.Linked.{arc_between, arcs_between, concepts_at, arcs_of_element, arcs_at, arcs_in};
 ghost use Rattle.xc_calc.specs.Rules.{kind_fault, locator_fault, ends_fault, arc_fault, broken_at, first_broken};
+ghost use Rattle.xc_calc.specs.Steps.{drawn_view};
 ghost use Rattle.xc_lists.specs.Places.{first_given};
 
 use crate::arc::{Arc, ArcKind, ListedArc};
@@ -65,7 +66,7 @@ fn concepts_at(
 
 // The arc of an arc element between two concepts.
 fn arc_between(alloc: Global, drawn: &Drawn, from: NameId, to: NameId) -> Result<ListedArc, Memory>
-    ensures { IfOk result (λ arc. arc ≡ arc_between drawn.now from to) }
+    ensures { IfOk result (λ arc. arc ≡ arc_between (drawn_view drawn.now) from to) }
 {
     Ok(ListedArc {
         role: drawn.role.copy()?,
@@ -89,7 +90,7 @@ fn add_from(
     from: NameId,
     to: &[NameId],
 ) -> Result<(), Memory>
-    ensures { OnOk result (arcs.new.items ≡ arcs.old.items ++ map (arc_between drawn.now from) to.now) }
+    ensures { OnOk result (arcs.new.items ≡ arcs.old.items ++ map (arc_between (drawn_view drawn.now) from) to.now) }
 {
     for target in to {
         arcs.push(arc_between(alloc, drawn, from, *target)?)?;
@@ -105,7 +106,7 @@ fn add_between(
     from: &[NameId],
     to: &[NameId],
 ) -> Result<(), Memory>
-    ensures { OnOk result (arcs.new.items ≡ arcs.old.items ++ arcs_between drawn.now from.now to.now) }
+    ensures { OnOk result (arcs.new.items ≡ arcs.old.items ++ arcs_between (drawn_view drawn.now) from.now to.now) }
 {
     for source in from {
         add_from(alloc, arcs, drawn, *source, to)?;

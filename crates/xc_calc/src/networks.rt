@@ -3,7 +3,8 @@ ghost use Rattle.std.specs.Prelude.{◌≡◌, ◌++◌, ◌||◌, ℕ, List, ma
 ghost use Rattle.std.specs.List.{list_any};
 ghost use Rattle.std.specs.List.Sorted.{IsStrictlySortedBy};
 ghost use Rattle.std.specs.Str.{bytes_eq};
-ghost use Rattle.xc_calc.specs.Networks.{by_bytes, arcs_of, some_role};
+ghost use Rattle.xc_calc.specs.Networks.{arcs_of, some_role};
+ghost use Rattle.xc_calc.specs.Steps.{by_bytes};
 
 use crate::arc::{Arc, ListedArc, Network};
 use std::alloc::Global;

@@ -6,7 +6,8 @@ use Rattle.xc_report.specs.Each.{each_some}
 use Rattle.xc_names.specs.Prefixes.{Bindings}
 use Rattle.xc_names.specs.declared.expanded.Expanded.{Expanded}
 use Rattle.xc_report.specs.Prefixed.{expanded}
-use Rattle.xc_report.specs.Units.{around, is_star, product}
+use Rattle.xc_chars.specs.Parts.{around}
+use Rattle.xc_report.specs.Units.{is_star, product}
 
 none_before : (b : Bool) → nat_lt 0 0 ≡ b → b ≡ true → ⊥
 none_before b e h = let lt : nat_lt 0 0 ≡ true = e ∙ h in grind (arith, nat_tests)

@@ -1,6 +1,5 @@
 -- Dimensions with their values as parts of a key, and the numbers of keys.
-use Rattle.std.specs.declared.alloc.Global.{Global}
-use Rattle.std.specs.Prelude.{◌≡◌, ◌≤◌, Vec, vec_capacity, length, ℕ, ◌==◌, ◌&&◌, ◌++◌, List, [], ◌∷◌, Bool, true, false, fold, Option, if◌then◌else◌}
+use Rattle.std.specs.Prelude.{◌≡◌, ℕ, ◌==◌, ◌&&◌, ◌++◌, List, [], ◌∷◌, Bool, true, false, fold, Option, if◌then◌else◌}
 use Rattle.std.specs.List.{list_any, position_or_len}
 use Rattle.std.specs.List.Sorted.{IsStrictlySortedBy}
 use Rattle.std.specs.BTreeMap.{insert_entry}
@@ -86,8 +85,3 @@ key_number keys key = position_or_len (is_same_key key) keys
 -- keys without those that are equal to an earlier one
 abbrev pub distinct : List Key → List Key
 distinct keys = fold with_key [] keys
-
--- an empty list with room for as many keys
-pub record HasRoom (keys : List Key) (list : Vec Key Global) : Type 0 where
-  pub empty : list.items ≡ []
-  pub room : length keys ≤ vec_capacity list

@@ -1,3 +1,4 @@
+pub mod Codes
 pub mod Dimensions
 pub mod Doubles
 pub mod Drafts
@@ -9,10 +10,10 @@ pub mod Numbered
 pub mod Opened
 pub mod Periods
 pub mod Prefixed
-pub mod Reads
 pub mod Renamed
 pub mod Reports
 pub mod Stated
 pub mod StatedFacts
+pub mod Steps
 pub mod Units
 pub mod Wanted

@@ -2,7 +2,8 @@
 use Rattle.std.specs.Prelude.{ℕ, List, Option, option_map, option_and_then}
 use Rattle.std.specs.FinMap.{get}
 use Rattle.xc_names.specs.Names.{name_of}
-use Rattle.xc_chars.specs.PlainNames.{around_colon, split}
+use Rattle.xc_chars.specs.Parts.{is_colon, around}
+use Rattle.xc_chars.specs.PlainNames.{split}
 use Rattle.xc_names.specs.Prefixes.{Bindings}
 use Rattle.xc_names.specs.declared.expanded.Expanded.{Expanded}
 
@@ -16,4 +17,4 @@ expanded prefixes text = option_and_then (bound_name prefixes) (split text)
 
 -- the same of a text with a declared prefix before its first colon, and anything after it
 abbrev pub expanded_loosely : Bindings → List ℕ → Option Expanded
-expanded_loosely prefixes text = option_and_then (bound_name prefixes) (around_colon text)
+expanded_loosely prefixes text = option_and_then (bound_name prefixes) (around is_colon text)

@@ -1,5 +1,5 @@
--- What is answered of a text or a member, and of a report, but for want of memory.
-use Rattle.std.specs.Prelude.{◌≡◌, ℕ, List, true, false, Option, Some, None, Result, Ok, Err, Vec}
+-- What private steps of the code say. No public clause cites them.
+use Rattle.std.specs.Prelude.{◌≡◌, ◌≤◌, ℕ, List, [], true, false, Option, Some, None, Result, Ok, Err, Vec, vec_capacity, length}
 use Rattle.std.specs.Borrow.{Bor}
 use Rattle.std.specs.declared.alloc.Global.{Global}
 use Rattle.xc_names.specs.Names.{name_of}
@@ -10,13 +10,14 @@ use Rattle.xc_report.specs.StatedFacts.{first, faults_of, facts_of}
 use Rattle.xc_report.specs.declared.stated.StatedFact.{StatedFact}
 use Rattle.xc_report.specs.declared.stated.StatedPart.{StatedPart}
 use Rattle.xc_report.specs.Wanted.{Known}
+use Rattle.xc_report.specs.declared.dimensions.Key.{Key}
 use Rattle.xc_report.specs.declared.known.Known as lent
 use Rattle.xc_report.specs.declared.reports.ReportFault.{ReportFault}
 use Rattle.xc_report.specs.declared.reports.ReportFault.TheVariants as fault
 use Rattle.xc_report.specs.declared.stated.Refusal.{Refusal}
 use Rattle.xc_report.specs.declared.stated.Refusal.TheVariants as refusal
 
--- the answer, or that there is none
+-- the answer, or that there is none, but for want of memory
 abbrev pub Reads : {A : Type 0} → Result A Refusal → Option A → Type 0
 Reads (Ok a) answer = answer ≡ Some a
 Reads (Err refusal.Memory) answer = Unit {0}
@@ -50,3 +51,8 @@ lent_name p = name_of p.0.now p.1.now
 -- what is known, as it is lent
 abbrev pub known_view : lent.Known → Known
 known_view k = record { prefixes = k.prefixes.now; names = k.names.now; nodes = k.nodes; typed = k.typed }
+
+-- an empty list with room for as many keys
+pub record HasRoom (keys : List Key) (list : Vec Key Global) : Type 0 where
+  pub empty : list.items ≡ []
+  pub room : length keys ≤ vec_capacity list

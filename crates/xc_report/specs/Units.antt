@@ -1,11 +1,11 @@
 -- Units: products of measures, and quotients of two (xBRL-JSON 1.0, the unit dimension).
-use Rattle.std.specs.Prelude.{ℕ, ◌==◌, List, [], ◌∷◌, Bool, false, codes, length, nat_lt, Option, Some, None, option_map, option_and_then, if◌then◌else◌}
-use Rattle.std.specs.List.{slice_split, position_or_len, before_first, after_first}
+use Rattle.std.specs.Prelude.{ℕ, ◌==◌, List, [], ◌∷◌, Bool, false, codes, length, Option, Some, None, option_map, option_and_then, if◌then◌else◌}
+use Rattle.std.specs.List.{slice_split}
+use Rattle.xc_chars.specs.Parts.{is_slash, around}
 use Rattle.xc_names.specs.Names.{is_named}
 use Rattle.xc_names.specs.Prefixes.{Bindings}
 use Rattle.xc_names.specs.declared.expanded.Expanded.{Expanded}
 use Rattle.xc_report.specs.Each.{each_some}
-use Rattle.xc_report.specs.Periods.{around_slash}
 use Rattle.xc_report.specs.Prefixed.{expanded}
 
 -- an asterisk
@@ -19,10 +19,6 @@ is_open byte = byte == 40
 -- a closing one
 abbrev pub is_close : ℕ → Bool
 is_close byte = byte == 41
-
--- what stands before the first byte of a kind, and after it
-abbrev pub around : (ℕ → Bool) → List ℕ → Option (List ℕ × List ℕ)
-around is_mark text = if nat_lt (position_or_len is_mark text) (length text) then Some (before_first is_mark text, after_first is_mark text) else None
 
 -- a product: measures joined by `*`, each a prefix and a local part
 abbrev pub product : Bindings → List ℕ → Option (List Expanded)
@@ -61,7 +57,7 @@ quotient prefixes text (Some parts) = above_and_below (side prefixes parts.0) (s
 
 -- the measures of a unit text, above the line and below it
 abbrev pub unit : Bindings → List ℕ → Option (List Expanded × List Expanded)
-unit prefixes text = quotient prefixes text (around_slash text)
+unit prefixes text = quotient prefixes text (around is_slash text)
 
 -- the measure `pure` of XBRL 2.1, section 4.8.2
 abbrev pub is_pure : Expanded → Bool

@@ -7,7 +7,7 @@ ghost use Rattle.xc_report.specs.Drafts.{draft_view};
 ghost use Rattle.xc_report.specs.Numbered.{IsReport};
 ghost use Rattle.xc_report.specs.Opened.{opened, first_wrong, are_texts_or_missing, is_object_or_missing, declared_by, declared_after, namespaces_in, text_of};
 ghost use Rattle.xc_report.specs.Json.{json_of};
-ghost use Rattle.xc_report.specs.Reads.{TellsStated};
+ghost use Rattle.xc_report.specs.Steps.{TellsStated};
 ghost use Rattle.xc_report.specs.Reports.{IdsAscend, StatedIdsAscend, StandOnce, KeysAscend, HaveKeys};
 ghost use Rattle.xc_report.specs.StatedFacts.{stated_facts};
 ghost use Rattle.xc_report.specs.Wanted.{known_of};

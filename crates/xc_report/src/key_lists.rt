@@ -20,7 +20,7 @@ pub struct Keys {
 impl Model for Keys {
     ghost use Rattle.std.specs.Prelude.{List};
     ghost use Rattle.xc_report.specs.declared.dimensions.Key.{Key};
-    ghost use Rattle.xc_report.specs.Dimensions.{HasRoom};
+    ghost use Rattle.xc_report.specs.Steps.{HasRoom};
 
     ghost Value = { List Key };
 

@@ -1,7 +1,7 @@
 // What is known when facts are read.
 ghost use Rattle.std.specs.Prelude.{◌≡◌, ℕ, List, length, is_some, option_map, IfOk};
 ghost use Rattle.xc_names.specs.Names.{name_of};
-ghost use Rattle.xc_report.specs.Reads.{known_view};
+ghost use Rattle.xc_report.specs.Steps.{known_view};
 ghost use Rattle.xc_report.specs.Wanted.{known_of, listed, node_of, is_typed};
 
 use std::alloc::Global;

@@ -25,7 +25,9 @@ mod units;
 pub use dimensions::{DimValue, Dimension, Key};
 pub use drafts::{Draft, open_report};
 pub use key_lists::Keys;
+pub use numbered::KeyedFact;
 pub use reports::{Fact, Member, Reading, Report, ReportFault};
+pub use stated::{DimensionName, StatedFact, StatedPart, StatedValue};
 
 #[cfg(test)]
 mod tests;

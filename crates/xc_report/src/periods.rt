@@ -1,10 +1,10 @@
 // Periods in their normal form.
-ghost use Rattle.std.specs.Prelude.{◌≡◌, ◌++◌, codes, option_map, IfOk, OnOk, string_bytes};
-ghost use Rattle.xc_chars.specs.PlainNames.{pair_view};
-ghost use Rattle.xc_report.specs.Periods.{around_slash, is_date, moment, normal_period};
+ghost use Rattle.std.specs.Prelude.{◌≡◌, ◌++◌, codes, IfOk, OnOk, string_bytes};
+ghost use Rattle.xc_report.specs.Periods.{is_date, moment, normal_period};
 
 use crate::forms::has_form;
 use std::alloc::Global;
+use xc_chars::around;
 use xc_lists::{Memory, Text};
 
 // How a date is written, with `d` for each digit.
@@ -15,25 +15,15 @@ const DATE: &str = "dddd-dd-dd";
 pub fn normal_period(alloc: Global, text: &str) -> Result<Text, Memory>
     ensures { IfOk result (λ period. period ≡ normal_period text.now) }
 {
-    match around_slash(text) {
+    match around(text, '/') {
         None => one_moment(alloc, text),
         Some((start, end)) => {
-            if around_slash(end).is_some() {
+            if around(end, '/').is_some() {
                 Ok(Text::of(String::from_str(alloc, text)?))
             } else {
                 two_moments(alloc, start, end)
             }
         }
-    }
-}
-
-/// What stands before the first slash of a text and after it.
-pub fn around_slash(text: &str) -> Option<(&str, &str)>
-    ensures { option_map pair_view result ≡ around_slash text.now }
-{
-    match text.split_once('/') {
-        Some((before, after)) => Some((before, after)),
-        None => None,
     }
 }
 

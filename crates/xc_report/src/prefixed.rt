@@ -1,9 +1,9 @@
 // Expanded names of texts with a prefix, lent by the text and by what its prefix stands for.
 ghost use Rattle.std.specs.Prelude.{◌≡◌, option_map};
 ghost use Rattle.xc_report.specs.Prefixed.{expanded, expanded_loosely, bound_name};
-ghost use Rattle.xc_report.specs.Reads.{lent_name};
+ghost use Rattle.xc_report.specs.Steps.{lent_name};
 
-use xc_chars::{around_colon, split};
+use xc_chars::{around, split};
 use xc_names::Prefixes;
 
 /// The name of two plain names joined by a colon, whose prefix is declared.
@@ -20,7 +20,7 @@ pub fn expanded<'a>(prefixes: &'a Prefixes, text: &'a str) -> Option<(&'a str, &
 pub fn expanded_loosely<'a>(prefixes: &'a Prefixes, text: &'a str) -> Option<(&'a str, &'a str)>
     ensures { option_map lent_name result ≡ expanded_loosely prefixes.now text.now }
 {
-    match around_colon(text) {
+    match around(text, ':') {
         Some((prefix, local)) => bound_name(prefixes, prefix, local),
         None => None,
     }

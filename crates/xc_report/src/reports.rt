@@ -1,5 +1,6 @@
 // Whole reports: the facts of the concepts that are wanted, with the keys of their dimensions.
-ghost use Rattle.std.specs.Prelude.{◌≡◌};
+ghost use Rattle.std.specs.Prelude.{◌≡◌, option_map};
+ghost use Rattle.xc_report.specs.Codes.{code_of, member_name, place_of};
 ghost use Rattle.xc_report.specs.declared.reports.ReportFault.TheVariants as ReportFault;
 
 use crate::dimensions::Key;
@@ -56,6 +57,21 @@ pub enum Member {
     Facts,
 }
 
+impl Member {
+    /// The name that is printed.
+    pub fn name(self) -> &'static str
+        ensures { result.now ≡ member_name self }
+    {
+        match self {
+            Member::Root => "root",
+            Member::DocumentInfo => "documentInfo",
+            Member::DocumentType => "documentType",
+            Member::Namespaces => "namespaces",
+            Member::Facts => "facts",
+        }
+    }
+}
+
 /// Why bytes are not read as a report.
 #[derive(Debug, Drop)]
 pub enum ReportFault {
@@ -72,6 +88,35 @@ pub enum ReportFault {
     BadValue(Text),
     /// The decimals of the fact of this id are there, and are no whole number in the signed 64-bit range.
     BadDecimals(Text),
+}
+
+impl ReportFault {
+    /// The code that is printed; None for want of memory alone.
+    pub fn code(&self) -> Option<&'static str>
+        ensures { option_map (λ code. code.now) result ≡ code_of self.now }
+    {
+        match self {
+            ReportFault::Memory => None,
+            ReportFault::NotJson => Some("xc:notJson"),
+            ReportFault::NotReport(_) => Some("xc:notReport"),
+            ReportFault::BadName(_) => Some("xc:badName"),
+            ReportFault::BadValue(_) => Some("xc:badValue"),
+            ReportFault::BadDecimals(_) => Some("xc:badDecimals"),
+        }
+    }
+
+    /// The part that is wrong, or the id of the fact, where the fault has one.
+    pub fn place(&self) -> Option<&str>
+        ensures { option_map (λ place. place.now) result ≡ place_of self.now }
+    {
+        match self {
+            ReportFault::Memory | ReportFault::NotJson => None,
+            ReportFault::NotReport(part) => Some(part.name()),
+            ReportFault::BadName(id) | ReportFault::BadValue(id) | ReportFault::BadDecimals(id) => {
+                Some(id.as_str())
+            }
+        }
+    }
 }
 
 impl From<AllocError> for ReportFault {

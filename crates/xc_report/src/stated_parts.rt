@@ -2,7 +2,7 @@
 ghost use Rattle.std.specs.Prelude.{◌≡◌, IfOk, Option};
 ghost use Rattle.serde_json.specs.View.{view, members_view};
 ghost use Rattle.xc_report.specs.Prefixed.{expanded};
-ghost use Rattle.xc_report.specs.Reads.{Reads, GivesParts, known_view};
+ghost use Rattle.xc_report.specs.Steps.{Reads, GivesParts, known_view};
 ghost use Rattle.xc_report.specs.Stated.{part, entity_value, period_value, text_value, member_value, taxonomy_value, taxonomy_part, unit_part, part_of, parts_of, kept};
 ghost use Rattle.xc_report.specs.declared.stated.StatedValue.{StatedValue};
 ghost use Rattle.xc_report.specs.declared.stated.StatedValue.TheVariants as stated;

@@ -1,15 +1,14 @@
 // Units: products of measures, and quotients of two.
 ghost use Rattle.std.specs.Prelude.{◌≡◌, option_map, IfOk};
 ghost use Rattle.xc_names.specs.Names.{name_of};
-ghost use Rattle.xc_chars.specs.PlainNames.{pair_view};
 ghost use Rattle.xc_report.specs.Prefixed.{expanded};
-ghost use Rattle.xc_report.specs.Reads.{Reads};
-ghost use Rattle.xc_report.specs.Units.{is_star, is_open, is_close, around, product, behind_open, before_close, single, side, unit, is_pure, is_pure_alone};
+ghost use Rattle.xc_report.specs.Steps.{Reads};
+ghost use Rattle.xc_report.specs.Units.{product, behind_open, before_close, single, side, unit, is_pure, is_pure_alone};
 
-use crate::periods::around_slash;
 use crate::prefixed::expanded;
 use crate::stated::Refusal;
 use std::alloc::Global;
+use xc_chars::around;
 use xc_lists::Items;
 use xc_names::{Expanded, Prefixes};
 
@@ -27,7 +26,7 @@ pub fn unit(
 ) -> Result<(Items<Expanded>, Items<Expanded>), Refusal>
     ensures { Reads result (unit prefixes.now text.now) }
 {
-    match around_slash(text) {
+    match around(text, '/') {
         Some((above, below)) => {
             let above = side(alloc, prefixes, above)?;
             let below = side(alloc, prefixes, below)?;
@@ -82,7 +81,7 @@ fn product(alloc: Global, prefixes: &Prefixes, text: &str) -> Result<Items<Expan
 {
     let mut measures = Vec::new(alloc);
     let mut left = text;
-    while let Some((first, rest)) = around_star(left) {
+    while let Some((first, rest)) = around(left, '*') {
         match expanded(prefixes, first) {
             Some((space, local)) => measures.push(Expanded::of(alloc, space, local)?)?,
             None => return Err(Refusal::Bad),
@@ -108,7 +107,7 @@ fn measure(alloc: Global, prefixes: &Prefixes, text: &str) -> Result<Expanded, R
 fn behind_open(text: &str) -> Option<&str>
     ensures { option_map (λ rest. rest.now) result ≡ behind_open text.now }
 {
-    match around_open(text) {
+    match around(text, '(') {
         Some((before, rest)) => if before.len() == 0 { Some(rest) } else { None },
         None => None,
     }
@@ -117,35 +116,8 @@ fn behind_open(text: &str) -> Option<&str>
 fn before_close(text: &str) -> Option<&str>
     ensures { option_map (λ inside. inside.now) result ≡ before_close text.now }
 {
-    match around_close(text) {
+    match around(text, ')') {
         Some((inside, after)) => if after.len() == 0 { Some(inside) } else { None },
-        None => None,
-    }
-}
-
-fn around_star(text: &str) -> Option<(&str, &str)>
-    ensures { option_map pair_view result ≡ around is_star text.now }
-{
-    match text.split_once('*') {
-        Some((before, after)) => Some((before, after)),
-        None => None,
-    }
-}
-
-fn around_open(text: &str) -> Option<(&str, &str)>
-    ensures { option_map pair_view result ≡ around is_open text.now }
-{
-    match text.split_once('(') {
-        Some((before, after)) => Some((before, after)),
-        None => None,
-    }
-}
-
-fn around_close(text: &str) -> Option<(&str, &str)>
-    ensures { option_map pair_view result ≡ around is_close text.now }
-{
-    match text.split_once(')') {
-        Some((before, after)) => Some((before, after)),
         None => None,
     }
 }

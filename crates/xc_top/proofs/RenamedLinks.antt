@@ -7,7 +7,8 @@ use Rattle.std.proofs.lemmas.Option.{IfSome_then}
 use Rattle.std.specs.List.{list_any, cons_option}
 use Rattle.std.specs.Option.{option_or, option_map_or}
 use Rattle.std.specs.Str.{bytes_eq}
-use Rattle.xc_calc.specs.Ends.{file_name, name_id, around_hash, concept_by, resolved, located, sources, targets}
+use Rattle.xc_chars.specs.Parts.{is_hash, around, file_name}
+use Rattle.xc_calc.specs.Ends.{name_id, concept_by, resolved, located, sources, targets}
 use Rattle.xc_calc.specs.Linkbases.{xlink_at, is_chosen}
 use Rattle.xc_calc.specs.Linked.{arc_between, concepts_at, arcs_of_element, arcs_at, arcs_in, drawn_at}
 use Rattle.xc_calc.specs.Rules.{kind_fault, locator_fault, attribute_fault, ends_fault}
@@ -65,7 +66,7 @@ module _ (f : ℕ → ℕ) where
 
   by_href : (schemas : List Schema) (o : Option (List ℕ)) → option_and_then (resolved (map (renamed_schema f) schemas)) o ≡ option_map (renamed_id f) (option_and_then (resolved schemas) o)
   by_href schemas None = refl
-  by_href schemas (Some href) = by_parts schemas (around_hash href)
+  by_href schemas (Some href) = by_parts schemas (around is_hash href)
 
   -- concepts are found by their ids whatever their numbers
   pub located_renamed : (schemas : List Schema) (nodes : List Node) (at : ℕ) → located (map (renamed_schema f) schemas) nodes at ≡ option_map (renamed_id f) (located schemas nodes at)
@@ -202,7 +203,7 @@ module _ (schemas : List Schema) where
 
   concept_by_href : (o : Option (List ℕ)) → IfSome (option_and_then (resolved schemas) o) IsNamed
   concept_by_href None = tt
-  concept_by_href (Some href) = concept_by_parts (around_hash href)
+  concept_by_href (Some href) = concept_by_parts (around is_hash href)
 
   -- what a locator names is a concept
   pub located_concept : (nodes : List Node) (at : ℕ) → IfSome (located schemas nodes at) IsNamed

@@ -5,7 +5,7 @@ use Rattle.std.proofs.lemmas.List.Elements.{All-nil, All-cons, All-head, All-tai
 use Rattle.std.proofs.lemmas.Simd.{map-map}
 use Rattle.std.specs.Option.{option_or}
 use Rattle.std.specs.Str.{bytes_eq}
-use Rattle.xc_calc.specs.Ends.{file_name}
+use Rattle.xc_chars.specs.Parts.{file_name}
 use Rattle.xc_concepts.specs.Declarations.{IsSchemaOf, declared_at, concepts_in, types_in}
 use Rattle.xc_concepts.specs.Held.{IsHeld, AreHeld}
 use Rattle.xc_lists.specs.Places.{places, first_given, is_repeated}

@@ -2,7 +2,7 @@
 use Rattle.std.proofs.Common.{◌≡◌, List, [], ◌∷◌, ◌++◌, map, Option, Some, None, refl, sym, ap, subst, ◌∙◌, append_assoc, append-nil}
 use Rattle.std.specs.List.{cons_option}
 use Rattle.std.specs.Option.{option_or}
-use Rattle.xc_calc.specs.Ends.{file_name}
+use Rattle.xc_chars.specs.Parts.{file_name}
 use Rattle.xc_concepts.specs.Declarations.{IsSchemaOf, declared_in, named_types_in}
 use Rattle.xc_concepts.specs.declared.schema.Concept.{Concept}
 use Rattle.xc_concepts.specs.declared.schema.Declared.{Declared}

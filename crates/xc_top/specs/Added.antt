@@ -1,6 +1,6 @@
 -- One more document of a taxonomy.
 use Rattle.std.specs.Prelude.{◌≡◌, List, Option, Some, None, option_and_then}
-use Rattle.xc_calc.specs.Ends.{file_name}
+use Rattle.xc_chars.specs.Parts.{file_name}
 use Rattle.xc_concepts.specs.Held.{IsWith}
 use Rattle.xc_concepts.specs.declared.schema.Schema.{Schema}
 use Rattle.xc_top.specs.Taxonomies.{Part, schema_broken}

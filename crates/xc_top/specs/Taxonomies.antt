@@ -1,7 +1,7 @@
 -- What the documents of a taxonomy say together, and the first rule that one of them breaks.
 use Rattle.std.specs.Prelude.{◌≡◌, ◌⊎◌, ◌++◌, ℕ, List, [], ◌∷◌, filter_map, flat_map, map, Option, Some, None, option_and_then, if◌then◌else◌}
 use Rattle.std.specs.Option.{option_or}
-use Rattle.xc_calc.specs.Ends.{file_name}
+use Rattle.xc_chars.specs.Parts.{file_name}
 use Rattle.xc_calc.specs.Linkbases.{is_linkbase}
 use Rattle.xc_calc.specs.Linked.{arcs_in}
 use Rattle.xc_calc.specs.Networks.{AreNetworks}

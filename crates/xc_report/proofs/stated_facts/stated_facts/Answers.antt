@@ -1,7 +1,7 @@
 use Rattle.std.proofs.Common.{◌≡◌, ◌++◌, sym, ap, subst, ◌∙◌}
 use Rattle.std.proofs.lemmas.List.{append-nil}
 use Rattle.serde_json.specs.View.{members_view}
-use Rattle.xc_report.specs.Reads.{known_view}
+use Rattle.xc_report.specs.Steps.{known_view}
 use Rattle.xc_report.specs.Reports.{StatedIdsAscend}
 use Rattle.xc_report.specs.StatedFacts.{facts_of}
 use Rattle.xc_report.proofs.StatedIds.{stated_ascend}

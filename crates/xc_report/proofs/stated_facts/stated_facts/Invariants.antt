@@ -1,6 +1,6 @@
 use Rattle.std.proofs.Common.{◌≡◌, ◌++◌}
 use Rattle.serde_json.specs.View.{members_view}
-use Rattle.xc_report.specs.Reads.{known_view}
+use Rattle.xc_report.specs.Steps.{known_view}
 use Rattle.xc_report.specs.StatedFacts.{first, faults_of, facts_of}
 use Rattle.xc_report.proofs.stated_facts.stated_facts.Given as goal
 

@@ -4,7 +4,8 @@ use Rattle.std.proofs.lemmas.Bool.Decides.{nat_tests}
 use Rattle.std.specs.List.{range_with_len}
 use Rattle.std.specs.Option.{option_or}
 use Rattle.xc_lists.specs.Places.{first_given, first_place, place_where}
-use Rattle.xc_concepts.specs.Rules.{Broken, nameless_fault, id_fault, concept_fault, earlier, broken_at, is_nameless, repeats_id, repeats_concept}
+use Rattle.xc_concepts.specs.Rules.{broken_at, is_nameless, repeats_id, repeats_concept}
+use Rattle.xc_concepts.specs.Steps.{Broken, nameless_fault, id_fault, concept_fault, earlier}
 use Rattle.xc_concepts.specs.declared.fault.SchemaFault.TheVariants.{BadPrefix, SameId, SameConcept}
 use Rattle.xc_concepts.specs.declared.schema.Schema.{Schema}
 use Rattle.xc_elements.specs.declared.nodes.Node.{Node}

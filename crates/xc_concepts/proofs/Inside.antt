@@ -5,7 +5,8 @@ use Rattle.std.proofs.lemmas.Bool.Decides.{Decides-eqb}
 use Rattle.std.proofs.lemmas.Option.{slice_get-get_or}
 use Rattle.std.proofs.lemmas.Bool.{eqb-true}
 use Rattle.xc_lists.specs.Places.{is_place}
-use Rattle.xc_concepts.specs.References.{Reference, make_reference, owner_of, base_at}
+use Rattle.xc_concepts.specs.References.{Reference, make_reference, base_at}
+use Rattle.xc_concepts.specs.Steps.{owner_of}
 use Rattle.xc_concepts.specs.Schemas.{is_schema_element, text_at, around, restricted_type, restricted_element}
 use Rattle.xc_concepts.specs.declared.references.Owner.{Owner}
 use Rattle.xc_concepts.specs.declared.references.Owner.TheVariants.{OfType, OfElement}
@@ -101,7 +102,7 @@ parents_before nodes tree k within None e = tt
 parents_before nodes tree k within (Some p) e = parent_before nodes tree k p within e
 
 -- what is not inside an element restricts nothing of it
-pub none_outside : (nodes : List Node) → IsTree nodes → (owner : Owner) (element k end : ℕ) → k < length nodes → end_of nodes element ≡ Some end → ¬ ((element < k) × (k < end)) → base_at nodes owner element k ≡ None
+pub none_outside : (nodes : List Node) → IsTree nodes → (owner : Owner) (element k end : ℕ) → k < length nodes → end_of nodes element ≡ Some end → ¬ ((element < k) × (k < end)) → base_at nodes (owner_of nodes owner) element k ≡ None
 none_outside nodes tree owner element k end within at outside = by (owner_of nodes owner k) refl
   where
     text : Option Reference
@@ -116,7 +117,7 @@ none_outside nodes tree owner element k end within at outside = by (owner_of nod
     by (Some p) e = decided p (p == element) e refl
 
 -- the same of a node that was read from the list
-pub none_beyond : (nodes read : List Node) → read ≡ nodes → IsTree read → (owner : Owner) (element k : ℕ) (d : Node) → element < length nodes → k < length nodes → ¬ ((element < k) × (k < (get_or read element d).end)) → base_at nodes owner element k ≡ None
+pub none_beyond : (nodes read : List Node) → read ≡ nodes → IsTree read → (owner : Owner) (element k : ℕ) (d : Node) → element < length nodes → k < length nodes → ¬ ((element < k) × (k < (get_or read element d).end)) → base_at nodes (owner_of nodes owner) element k ≡ None
 none_beyond nodes read same tree owner element k d there within outside =
     let here : element < length read = subst (λ ns. element < length ns) (sym same) there in
     none_outside nodes (subst IsTree same tree) owner element k (get_or read element d).end within

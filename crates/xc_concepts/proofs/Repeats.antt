@@ -8,7 +8,7 @@ use Rattle.std.specs.List.{list_any}
 use Rattle.std.specs.Option.{option_map_or}
 use Rattle.std.specs.Str.{bytes_eq}
 use Rattle.xc_concepts.specs.Declarations.{declared_at, concepts_in}
-use Rattle.xc_concepts.specs.Lent.{is_text_of, is_concept_of}
+use Rattle.xc_concepts.specs.Steps.{is_text_of, is_concept_of}
 use Rattle.xc_lists.specs.Places.{before, is_repeated}
 use Rattle.xc_concepts.specs.Rules.{is_same_name, repeats_concept}
 use Rattle.xc_concepts.specs.Schemas.{target, top_name}

@@ -3,7 +3,7 @@ pub mod Codes
 pub mod Declarations
 pub mod Held
 pub mod Laws
-pub mod Lent
 pub mod References
 pub mod Rules
 pub mod Schemas
+pub mod Steps

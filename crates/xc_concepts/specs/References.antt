@@ -1,12 +1,8 @@
 -- The texts of a schema that name types, and the types that they name: XBRL 2.1, section 5.1.1.3.
 use Rattle.std.specs.Prelude.{ℕ, List, [], codes, Option, Some, None, option_map, option_and_then, unwrap_or, is_some, if◌then◌else◌}
-use Rattle.std.specs.Borrow.{Bor}
 use Rattle.std.specs.Option.{option_or}
 use Rattle.xc_lists.specs.Places.{places, is_place, first_given}
 use Rattle.xc_concepts.specs.Schemas.{text_at, top_name, restricted_type, restricted_element}
-use Rattle.xc_concepts.specs.declared.references.Owner.{Owner}
-use Rattle.xc_concepts.specs.declared.references.Owner.TheVariants.{OfType, OfElement}
-use Rattle.xc_concepts.specs.declared.references.Reference as lent
 use Rattle.xc_elements.specs.Trees.{space_in_scope}
 use Rattle.xc_elements.specs.declared.nodes.Node.{Node}
 use Rattle.xc_names.specs.Names.{name_of}
@@ -17,14 +13,6 @@ use Rattle.xc_names.specs.declared.expanded.Expanded.{Expanded}
 pub record Reference : Type 0 where
   pub at : ℕ
   pub text : List ℕ
-
--- a lent one
-abbrev pub reference_view : lent.Reference → Reference
-reference_view r = record { at = r.at; text = r.text.now }
-
--- a lent name
-abbrev pub lent_name : Bor (List ℕ) × Bor (List ℕ) → Expanded
-lent_name parts = name_of parts.0.now parts.1.now
 
 abbrev pub make_reference : ℕ → List ℕ → Reference
 make_reference at text = record { at = at; text = text }
@@ -43,26 +31,21 @@ type_name nodes r =
     if is_plain_name r.text then Some (name_of (default_space nodes r.at) r.text)
     else option_and_then (prefixed_name nodes r.at) (split r.text)
 
--- the element whose content a restriction at this place restricts: an `xs:complexType`, or the `xs:element` around it
-abbrev pub owner_of : List Node → Owner → ℕ → Option ℕ
-owner_of nodes OfType at = restricted_type nodes at
-owner_of nodes OfElement at = restricted_element nodes at
-
--- the `base` of a restriction, where it restricts the content of this element
-abbrev pub base_at : List Node → Owner → ℕ → ℕ → Option Reference
-base_at nodes owner element at = if is_place element (owner_of nodes owner at) then option_map (make_reference at) (text_at nodes at (codes "base")) else None
+-- the `base` of a restriction, where it restricts the content of this element. `owner` says whose content a restriction at a place restricts
+abbrev pub base_at : List Node → (ℕ → Option ℕ) → ℕ → ℕ → Option Reference
+base_at nodes owner element at = if is_place element (owner at) then option_map (make_reference at) (text_at nodes at (codes "base")) else None
 
 -- the first of them in the order of the document
-abbrev pub first_base : List Node → Owner → ℕ → Option Reference
+abbrev pub first_base : List Node → (ℕ → Option ℕ) → ℕ → Option Reference
 first_base nodes owner element = first_given (base_at nodes owner element) (places nodes)
 
 -- what names the base of an `xs:complexType`: the first `base` at the path `xs:simpleContent`, `xs:restriction` below it
 abbrev pub base_of_type : List Node → ℕ → Option Reference
-base_of_type nodes at = first_base nodes OfType at
+base_of_type nodes at = first_base nodes (restricted_type nodes) at
 
 -- what names the type of an `xs:element`: its `type`, or else the first `base` at the path `xs:complexType`, `xs:simpleContent`, `xs:restriction` below it
 abbrev pub type_of_element : List Node → ℕ → Option Reference
-type_of_element nodes at = option_or (option_map (make_reference at) (text_at nodes at (codes "type"))) (first_base nodes OfElement at)
+type_of_element nodes at = option_or (option_map (make_reference at) (text_at nodes at (codes "type"))) (first_base nodes (restricted_element nodes) at)
 
 -- what is judged of a node: what names the type of a concept, or the base of a type that has a name
 abbrev pub judged_at : List Node → ℕ → Option Reference

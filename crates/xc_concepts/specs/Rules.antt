@@ -1,5 +1,5 @@
 -- The rules that a schema is held to, and the first that it breaks.
-use Rattle.std.specs.Prelude.{◌==◌, nat_lt, ℕ, Bool, List, [], map, filter_map, Option, Some, None, option_map, option_and_then, is_some, codes, if◌then◌else◌}
+use Rattle.std.specs.Prelude.{◌==◌, ℕ, Bool, List, [], map, filter_map, Option, Some, None, option_map, option_and_then, is_some, codes, if◌then◌else◌}
 use Rattle.std.specs.List.{list_any}
 use Rattle.std.specs.Str.{bytes_eq}
 use Rattle.xc_concepts.specs.Declarations.{declared_at, concepts_in}
@@ -40,26 +40,6 @@ is_same_name a b = is_named a.space a.local b
 -- the concept's name was declared before, in another schema or at an earlier node: XML Schema 1.0, part 1, section 3.3.6
 abbrev pub repeats_concept : List Schema → List Node → ℕ → Bool
 repeats_concept schemas nodes at = is_repeated is_same_name (map (λ c. c.declared.name) (concepts_in schemas)) (λ k. option_map (λ d. d.name) (declared_at nodes k)) at
-
--- a fault with the number of its node
-abbrev pub Broken : Type 0
-Broken = ℕ × SchemaFault
-
--- the fault of a node for each rule
-abbrev pub nameless_fault : ℕ → Broken
-nameless_fault at = (at, BadPrefix at)
-
-abbrev pub id_fault : ℕ → Broken
-id_fault at = (at, SameId at)
-
-abbrev pub concept_fault : ℕ → Broken
-concept_fault at = (at, SameConcept at)
-
--- the first of two faults: the one of the earlier node, and at one node the first
-abbrev pub earlier : Option Broken → Option Broken → Option Broken
-earlier None other = other
-earlier (Some one) None = Some one
-earlier (Some one) (Some other) = if nat_lt other.0 one.0 then Some other else Some one
 
 -- the first rule that a node breaks
 abbrev pub broken_at : List Schema → List Node → ℕ → Option SchemaFault

@@ -2,7 +2,8 @@
 ghost use Rattle.std.specs.Prelude.{◌≡◌, ◌<◌, ◌++◌, length, map, IfOk, OnOk, IfSome, All, option_to_list, option_map, option_and_then};
 ghost use Rattle.xc_concepts.specs.Declarations.{IsSchemaOf, declared_as, declared_at, declared_in, type_as, named_type_at, named_types_in};
 ghost use Rattle.xc_concepts.specs.Held.{IsHeld};
-ghost use Rattle.xc_concepts.specs.References.{reference_view, type_name};
+ghost use Rattle.xc_concepts.specs.References.{type_name};
+ghost use Rattle.xc_concepts.specs.Steps.{reference_view};
 ghost use Rattle.xc_names.specs.Names.{KeepsNumbers};
 
 use crate::elements::{count, target, text_at, top_name};

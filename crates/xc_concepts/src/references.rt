@@ -2,7 +2,8 @@
 ghost use Rattle.std.specs.Prelude.{◌≡◌, ◌<◌, IfSome, length, option_map};
 ghost use Rattle.xc_lists.specs.Places.{is_place};
 ghost use Rattle.xc_concepts.specs.Schemas.{restricted_type, restricted_element};
-ghost use Rattle.xc_concepts.specs.References.{reference_view, lent_name, default_space, type_name, owner_of, base_at, first_base, base_of_type, type_of_element, judged_at};
+ghost use Rattle.xc_concepts.specs.References.{default_space, type_name, base_at, first_base, base_of_type, type_of_element, judged_at};
+ghost use Rattle.xc_concepts.specs.Steps.{reference_view, lent_name, owner_of};
 
 use crate::elements::{around, count, text_at, top_name};
 use xc_chars::{is_plain_name, split};
@@ -83,7 +84,7 @@ fn restricted_element(tree: &Tree, at: u32) -> Option<u32>
 
 fn base_at<'a>(tree: &'a Tree, owner: Owner, element: u32, at: u32) -> Option<Reference<'a>>
     requires { at < length tree.now }
-    ensures reference { option_map reference_view result ≡ base_at tree.now owner element at }
+    ensures reference { option_map reference_view result ≡ base_at tree.now (owner_of tree.now owner) element at }
     ensures within { IfSome result (λ r. r.at < length tree.now) }
 {
     if !is_place(element, owner_of(tree, owner, at)) {
@@ -107,7 +108,7 @@ fn is_place(at: u32, place: Option<u32>) -> bool
 // What an element's content restricts stands inside it, so nothing behind its end is looked at.
 fn first_base<'a>(tree: &'a Tree, owner: Owner, element: u32) -> Option<Reference<'a>>
     requires { element < length tree.now }
-    ensures reference { option_map reference_view result ≡ first_base tree.now owner element }
+    ensures reference { option_map reference_view result ≡ first_base tree.now (owner_of tree.now owner) element }
     ensures within { IfSome result (λ r. r.at < length tree.now) }
 {
     let end = tree.nodes()[element as usize].end.min(count(tree));

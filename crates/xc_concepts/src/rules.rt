@@ -3,8 +3,8 @@ ghost use Rattle.std.specs.Prelude.{◌≡◌, ◌<◌, ◌||◌, length, option
 ghost use Rattle.std.specs.List.{list_any};
 ghost use Rattle.std.specs.Str.{bytes_eq};
 ghost use Rattle.xc_lists.specs.Places.{places, first_place, first_given, least};
-ghost use Rattle.xc_concepts.specs.Rules.{nameless_at, nameless_fault, id_fault, concept_fault, is_nameless, id_at, repeats_id, repeats_concept, earlier, broken_at};
-ghost use Rattle.xc_concepts.specs.Lent.{is_text_of, is_concept_of};
+ghost use Rattle.xc_concepts.specs.Rules.{nameless_at, is_nameless, id_at, repeats_id, repeats_concept, broken_at};
+ghost use Rattle.xc_concepts.specs.Steps.{is_text_of, is_concept_of, nameless_fault, id_fault, concept_fault, earlier};
 ghost use Rattle.xc_names.specs.Names.{is_named};
 
 use crate::elements::{count, target, text_at, top_name};

@@ -1,6 +1,6 @@
 use Rattle.std.proofs.Common.{ap, sym, ◌∙◌, length, option_map}
 use Rattle.xc_concepts.proofs.Earlier.{first_broken_by_rules}
-use Rattle.xc_concepts.specs.Rules.{nameless_fault, id_fault, concept_fault, earlier}
+use Rattle.xc_concepts.specs.Steps.{nameless_fault, id_fault, concept_fault, earlier}
 use Rattle.xc_concepts.proofs.rules.first_broken.Goals as goal
 
 pub returns-in-Some : goal.returns-in-Some

@@ -1,0 +1,64 @@
+-- What private steps of the code say. No public clause cites them.
+use Rattle.std.specs.Prelude.{nat_lt, ℕ, List, Bool, false, Option, Some, None, if◌then◌else◌}
+use Rattle.std.specs.Borrow.{Bor}
+use Rattle.std.specs.List.{list_any}
+use Rattle.std.specs.Option.{option_map_or}
+use Rattle.std.specs.Str.{bytes_eq}
+use Rattle.xc_concepts.specs.References.{Reference}
+use Rattle.xc_concepts.specs.Schemas.{restricted_type, restricted_element}
+use Rattle.xc_concepts.specs.declared.fault.SchemaFault.{SchemaFault}
+use Rattle.xc_concepts.specs.declared.fault.SchemaFault.TheVariants.{BadPrefix, SameId, SameConcept}
+use Rattle.xc_concepts.specs.declared.references.Owner.{Owner}
+use Rattle.xc_concepts.specs.declared.references.Owner.TheVariants.{OfType, OfElement}
+use Rattle.xc_concepts.specs.declared.references.Reference as lent
+use Rattle.xc_concepts.specs.declared.schema.Schema.{Schema}
+use Rattle.xc_elements.specs.declared.nodes.Node.{Node}
+use Rattle.xc_names.specs.Names.{is_named, name_of}
+use Rattle.xc_names.specs.declared.expanded.Expanded.{Expanded}
+
+-- ---- lent texts
+
+-- a lent text that names a type, at its node
+abbrev pub reference_view : lent.Reference → Reference
+reference_view r = record { at = r.at; text = r.text.now }
+
+-- a lent name
+abbrev pub lent_name : Bor (List ℕ) × Bor (List ℕ) → Expanded
+lent_name parts = name_of parts.0.now parts.1.now
+
+-- there is a text, and it is one of these
+abbrev pub is_text_of : List (Bor (List ℕ)) → Option (Bor (List ℕ)) → Bool
+is_text_of texts text = option_map_or (λ x. list_any (λ t. bytes_eq x.now t.now) texts) text false
+
+-- there is a local part, and one of the schemas has a concept with this name
+abbrev pub is_concept_of : List Schema → List ℕ → Option (Bor (List ℕ)) → Bool
+is_concept_of schemas space local = option_map_or (λ x. list_any (λ s. list_any (λ c. is_named space x.now c.declared.name) s.concepts) schemas) local false
+
+-- ---- restrictions
+
+-- whose content a restriction at a place restricts: that of a type, or of an element
+abbrev pub owner_of : List Node → Owner → ℕ → Option ℕ
+owner_of nodes OfType = restricted_type nodes
+owner_of nodes OfElement = restricted_element nodes
+
+-- ---- the first of several faults
+
+-- a fault with the number of its node
+abbrev pub Broken : Type 0
+Broken = ℕ × SchemaFault
+
+-- the fault of a node for each rule
+abbrev pub nameless_fault : ℕ → Broken
+nameless_fault at = (at, BadPrefix at)
+
+abbrev pub id_fault : ℕ → Broken
+id_fault at = (at, SameId at)
+
+abbrev pub concept_fault : ℕ → Broken
+concept_fault at = (at, SameConcept at)
+
+-- the first of two faults: the one of the earlier node, and at one node the first
+abbrev pub earlier : Option Broken → Option Broken → Option Broken
+earlier None other = other
+earlier (Some one) None = Some one
+earlier (Some one) (Some other) = if nat_lt other.0 one.0 then Some other else Some one

@@ -1,13 +1,12 @@
 -- The elements of a linkbase document: XBRL 2.1, section 3.5.
-use Rattle.std.specs.Prelude.{◌&&◌, ℕ, Bool, false, List, [], codes, Option, option_map, unwrap_or, is_some, slice_get}
+use Rattle.std.specs.Prelude.{◌&&◌, ℕ, Bool, false, List, [], codes, Option, unwrap_or, is_some, slice_get}
 use Rattle.std.specs.Option.{option_map_or}
 use Rattle.std.specs.Str.{bytes_eq}
 use Rattle.xc_calc.specs.declared.arc.ArcKind.{ArcKind}
 use Rattle.xc_calc.specs.declared.arc.ArcKind.TheVariants.{New, Old}
 use Rattle.xc_lists.specs.Places.{is_place}
-use Rattle.xc_elements.specs.Trees.{parent_of, attribute_of}
+use Rattle.xc_elements.specs.Trees.{is_element, parent_of, trimmed_attribute}
 use Rattle.xc_elements.specs.declared.nodes.Node.{Node}
-use Rattle.xc_chars.specs.Trimmed.{trimmed}
 
 -- the namespace of linkbases: XBRL 2.1, section 3.5
 abbrev pub link_space : List ℕ
@@ -19,7 +18,7 @@ xlink_space = codes "http://www.w3.org/1999/xlink"
 
 -- the node is this element of linkbases
 abbrev pub is_link_node : List ℕ → Node → Bool
-is_link_node local node = bytes_eq node.space link_space && bytes_eq node.local local
+is_link_node local node = is_element link_space local node
 
 -- the node at this place is this element of linkbases
 abbrev pub is_link_element : List Node → List ℕ → ℕ → Bool
@@ -33,17 +32,13 @@ is_linkbase nodes = is_link_element nodes (codes "linkbase") 0
 abbrev pub is_child : List Node → ℕ → ℕ → Bool
 is_child nodes parent at = is_place parent (parent_of nodes at)
 
--- the value of an attribute, without the white space around it
-abbrev pub value_at : List Node → ℕ → List ℕ → List ℕ → Option (List ℕ)
-value_at nodes at space local = option_map trimmed (attribute_of nodes at space local)
-
 -- the value of an attribute of XLink, without the white space around it
 abbrev pub xlink_at : List Node → ℕ → List ℕ → Option (List ℕ)
-xlink_at nodes at local = value_at nodes at xlink_space local
+xlink_at nodes at local = trimmed_attribute nodes at xlink_space local
 
 -- the value of an attribute without namespace, without the white space around it
 abbrev pub plain_at : List Node → ℕ → List ℕ → Option (List ℕ)
-plain_at nodes at local = value_at nodes at [] local
+plain_at nodes at local = trimmed_attribute nodes at [] local
 
 -- the node is an extended link of calculations, a child of the root: XBRL 2.1, section 5.2.5
 abbrev pub is_link : List Node → ℕ → Bool

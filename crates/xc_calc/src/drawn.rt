@@ -10,7 +10,6 @@ use crate::attributes::{order_at, others_at, priority_at, use_at, weight_at};
 use crate::elements::role_at;
 use crate::fault::LinkFault;
 use std::alloc::Global;
-use xc_concepts::parent_of;
 use xc_decimal::Decimal;
 use xc_elements::{Attribute, Tree};
 use xc_lists::{Items, Memory, Text};
@@ -37,7 +36,7 @@ fn role_around(alloc: Global, tree: &Tree, at: u32) -> Result<Text, Memory>
     requires { at < length tree.now }
     ensures { IfOk result (λ role. role ≡ role_around tree.now at) }
 {
-    let role = match parent_of(tree, at) {
+    let role = match tree.parent_of(at) {
         Some(link) => role_at(tree, link),
         None => "",
     };

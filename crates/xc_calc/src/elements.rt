@@ -1,10 +1,8 @@
 // The elements of a linkbase document.
 ghost use Rattle.std.specs.Prelude.{◌≡◌, ◌<◌, length, option_map};
-ghost use Rattle.xc_calc.specs.Linkbases.{is_linkbase, is_link_node, is_link_element, is_child, value_at, xlink_at, plain_at, is_link, role_at, chosen_arcrole, is_text, is_in_link, is_arc, is_chosen, is_locator};
+ghost use Rattle.xc_calc.specs.Linkbases.{is_linkbase, is_link_node, is_link_element, is_child, xlink_at, plain_at, is_link, role_at, chosen_arcrole, is_text, is_in_link, is_arc, is_chosen, is_locator};
 
 use crate::arc::ArcKind;
-use xc_chars::trimmed;
-use xc_concepts::parent_of;
 use xc_elements::{Node, Tree};
 
 const LINK_SPACE: &str = "http://www.xbrl.org/2003/linkbase";
@@ -25,7 +23,7 @@ pub fn is_linkbase(tree: &Tree) -> bool
 fn is_link_node(local: &str, node: &Node) -> bool
     ensures { result ≡ is_link_node local.now node.now }
 {
-    node.space.as_str() == LINK_SPACE && node.local.as_str() == local
+    node.is(LINK_SPACE, local)
 }
 
 // Whether the node at a place is this element of linkbases.
@@ -40,20 +38,9 @@ fn is_child(tree: &Tree, parent: u32, at: u32) -> bool
     requires { at < length tree.now }
     ensures { result ≡ is_child tree.now parent at }
 {
-    match parent_of(tree, at) {
+    match tree.parent_of(at) {
         Some(place) => place == parent,
         None => false,
-    }
-}
-
-// The value of an attribute, without the white space around it.
-fn value_at<'a>(tree: &'a Tree, at: u32, space: &str, local: &str) -> Option<&'a str>
-    requires { at < length tree.now }
-    ensures { option_map (λ text. text.now) result ≡ value_at tree.now at space.now local.now }
-{
-    match tree.attribute(at, space, local) {
-        Some(value) => Some(trimmed(value)),
-        None => None,
     }
 }
 
@@ -62,7 +49,7 @@ pub(crate) fn xlink_at<'a>(tree: &'a Tree, at: u32, local: &str) -> Option<&'a s
     requires { at < length tree.now }
     ensures { option_map (λ text. text.now) result ≡ xlink_at tree.now at local.now }
 {
-    value_at(tree, at, XLINK_SPACE, local)
+    tree.trimmed_attribute(at, XLINK_SPACE, local)
 }
 
 /// The value of an attribute without namespace, without the white space around it.
@@ -70,7 +57,7 @@ pub(crate) fn plain_at<'a>(tree: &'a Tree, at: u32, local: &str) -> Option<&'a s
     requires { at < length tree.now }
     ensures { option_map (λ text. text.now) result ≡ plain_at tree.now at local.now }
 {
-    value_at(tree, at, "", local)
+    tree.trimmed_attribute(at, "", local)
 }
 
 // Whether the node is an extended link of calculations.
@@ -122,7 +109,7 @@ fn is_in_link(tree: &Tree, at: u32) -> bool
     requires { at < length tree.now }
     ensures { result ≡ is_in_link tree.now at }
 {
-    match parent_of(tree, at) {
+    match tree.parent_of(at) {
         Some(link) => is_link(tree, link),
         None => false,
     }

@@ -5,7 +5,7 @@ ghost use Rattle.xc_calc.specs.Ends.{resolved, located, locators, end_at};
 use crate::elements::{is_locator, xlink_at};
 use std::alloc::Global;
 use xc_chars::{around, file_name};
-use xc_concepts::{Concepts, count, parent_of};
+use xc_concepts::Concepts;
 use xc_elements::Tree;
 use xc_lists::Memory;
 use xc_names::NameId;
@@ -36,7 +36,7 @@ fn locators(alloc: Global, tree: &Tree, link: u32, label: &str) -> Result<Vec<u3
     ensures { IfOk result (λ found. found.items ≡ locators tree.now link label.now) }
 {
     let mut found = Vec::new(alloc);
-    for at in 0..count(tree) {
+    for at in 0..tree.count() {
         if is_locator(tree, link, label, at) {
             found.push(at)?;
         }
@@ -49,7 +49,7 @@ pub(crate) fn end_at(alloc: Global, tree: &Tree, at: u32, local: &str) -> Result
     requires { at < length tree.now }
     ensures { IfOk result (λ found. found.items ≡ end_at tree.now at local.now) }
 {
-    let Some(link) = parent_of(tree, at) else {
+    let Some(link) = tree.parent_of(at) else {
         return Ok(Vec::new(alloc));
     };
     match xlink_at(tree, at, local) {

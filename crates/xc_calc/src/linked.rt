@@ -13,7 +13,7 @@ use crate::elements::is_chosen;
 use crate::ends::{end_at, located};
 use crate::fault::LinkFault;
 use std::alloc::Global;
-use xc_concepts::{Concepts, Kind, count};
+use xc_concepts::{Concepts, Kind};
 use xc_elements::Tree;
 use xc_lists::{Items, Memory};
 use xc_names::NameId;
@@ -183,7 +183,7 @@ pub(crate) fn arcs_in(
     ensures fault { IfErr result (λ e. (e ≡ LinkFault.Memory) ⊎ (first_broken kind concepts.now tree.now ≡ Some e)) }
 {
     let mut arcs = Vec::new(alloc);
-    for at in 0..count(tree) {
+    for at in 0..tree.count() {
         add_node(alloc, &mut arcs, kind, tree, concepts, at)?;
     }
     Ok(arcs)

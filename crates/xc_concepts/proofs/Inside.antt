@@ -29,30 +29,6 @@ parent_before nodes tree (suc k) p h e =
     let same : parent.0 ≡ p = (let some : Some parent.0 ≡ Some p = sym parent.1 ∙ e in cc) in
     subst (λ q. q < suc k) same parent.2
 
--- the root is above every other node
-root_above : (nodes : List Node) → IsTree nodes → (n k : ℕ) → suc k < length nodes → suc k ≤ n → list_any (λ a. a == 0) (upward nodes n (parent_of nodes (suc k))) ≡ true
-root_above nodes tree zero k h less = absurd (omega arith)
-root_above nodes tree (suc n) k h less =
-    let parent = tree.parents k h in
-    rw parent.1 (by parent.0 parent.2 (root_above nodes tree n))
-  where
-    by : (p : ℕ) → p < suc k → ((j : ℕ) → suc j < length nodes → suc j ≤ n → list_any (λ a. a == 0) (upward nodes n (parent_of nodes (suc j))) ≡ true)
-        → ((p == 0) || list_any (λ a. a == 0) (upward nodes n (parent_of nodes p))) ≡ true
-    by zero b above = refl
-    by (suc j) b above = either (suc j == 0) _ (above j (omega arith) (omega arith))
-
--- the end of the root is behind all other nodes
-pub length_by_end : (nodes : List Node) → IsTree nodes → (root : Node) → slice_get nodes 0 ≡ Some root → length nodes ≤ max 1 root.end
-length_by_end nodes tree root first = by (length nodes) refl
-  where
-    by : (n : ℕ) → length nodes ≡ n → length nodes ≤ max 1 root.end
-    by zero e = omega arith
-    by (suc zero) e = omega arith
-    by (suc (suc k)) e =
-        let within : suc k < length nodes = omega arith in
-        let last = (tree.descendants 0 (suc k) within root.end (ap (option_map (λ n. n.end)) first)).0 (root_above nodes tree (length nodes) k within (omega arith)) in
-        omega (arith, last.1)
-
 -- what is around a node is its parent
 around_parent : (nodes : List Node) (local : List ℕ) (k p : ℕ) → around nodes local k ≡ Some p → parent_of nodes k ≡ Some p
 around_parent nodes local k p e = elim (is_schema_element nodes local k) as (λ b. (if b then parent_of nodes k else None) ≡ Some p → parent_of nodes k ≡ Some p) [ true ↦ λ h. h | false ↦ λ h. absurd (cc) ] e
@@ -96,10 +72,6 @@ inside_element nodes tree k e within is =
 pub owned_inside : (nodes : List Node) → IsTree nodes → (owner : Owner) (k e end : ℕ) → k < length nodes → owner_of nodes owner k ≡ Some e → end_of nodes e ≡ Some end → (e < k) × (k < end)
 owned_inside nodes tree OfType k e end within is at = (tree.descendants e k within end at).0 (inside_type nodes tree k e within is)
 owned_inside nodes tree OfElement k e end within is at = (tree.descendants e k within end at).0 (inside_element nodes tree k e within is)
-
-pub parents_before : (nodes : List Node) → IsTree nodes → (k : ℕ) → k < length nodes → (o : Option ℕ) → parent_of nodes k ≡ o → IfSome o (λ p. p < k)
-parents_before nodes tree k within None e = tt
-parents_before nodes tree k within (Some p) e = parent_before nodes tree k p within e
 
 -- what is not inside an element restricts nothing of it
 pub none_outside : (nodes : List Node) → IsTree nodes → (owner : Owner) (element k end : ℕ) → k < length nodes → end_of nodes element ≡ Some end → ¬ ((element < k) × (k < end)) → base_at nodes (owner_of nodes owner) element k ≡ None

@@ -1,11 +1,9 @@
 -- The elements of a schema document: XML Schema 1.0, part 1, and XBRL 2.1, section 5.1.
-use Rattle.std.specs.Prelude.{◌&&◌, ℕ, Bool, false, List, [], codes, Option, None, option_map, option_and_then, unwrap_or, slice_get, if◌then◌else◌}
+use Rattle.std.specs.Prelude.{◌&&◌, ℕ, Bool, false, List, [], codes, Option, None, option_and_then, unwrap_or, slice_get, if◌then◌else◌}
 use Rattle.std.specs.Option.{option_map_or}
-use Rattle.std.specs.Str.{bytes_eq}
 use Rattle.xc_lists.specs.Places.{is_place}
-use Rattle.xc_elements.specs.Trees.{parent_of, attribute_of}
+use Rattle.xc_elements.specs.Trees.{is_element, parent_of, attribute_of, trimmed_attribute}
 use Rattle.xc_elements.specs.declared.nodes.Node.{Node}
-use Rattle.xc_chars.specs.Trimmed.{trimmed}
 
 -- the namespace of XML Schema
 abbrev pub schema_space : List ℕ
@@ -21,7 +19,7 @@ dimensions_space = codes "http://xbrl.org/2005/xbrldt"
 
 -- the node is this element of XML Schema
 abbrev pub is_schema_node : List ℕ → Node → Bool
-is_schema_node local node = bytes_eq node.space schema_space && bytes_eq node.local local
+is_schema_node local node = is_element schema_space local node
 
 -- the node at this place is this element of XML Schema
 abbrev pub is_schema_element : List Node → List ℕ → ℕ → Bool
@@ -33,7 +31,7 @@ is_schema nodes = is_schema_element nodes (codes "schema") 0
 
 -- the value of an attribute without namespace, without the white space around it
 abbrev pub text_at : List Node → ℕ → List ℕ → Option (List ℕ)
-text_at nodes at local = option_map trimmed (attribute_of nodes at [] local)
+text_at nodes at local = trimmed_attribute nodes at [] local
 
 -- the node is this element of XML Schema, and a child of the root
 abbrev pub is_top : List Node → List ℕ → ℕ → Bool

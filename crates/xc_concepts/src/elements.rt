@@ -2,9 +2,7 @@
 ghost use Rattle.std.specs.Prelude.{◌≡◌, ◌<◌, IfSome, length, option_map};
 ghost use Rattle.xc_concepts.specs.Schemas.{is_schema, is_schema_node, is_schema_element, text_at, is_top, top_name, target, around, restricted_type, restricted_element};
 ghost use Rattle.xc_lists.specs.Places.{is_place};
-ghost use Rattle.xc_elements.specs.Trees.{parent_of};
 
-use xc_chars::trimmed;
 use xc_elements::{Node, Tree};
 
 const SCHEMA_SPACE: &str = "http://www.w3.org/2001/XMLSchema";
@@ -22,7 +20,7 @@ pub fn is_schema(tree: &Tree) -> bool
 fn is_schema_node(local: &str, node: &Node) -> bool
     ensures { result ≡ is_schema_node local.now node.now }
 {
-    node.space.as_str() == SCHEMA_SPACE && node.local.as_str() == local
+    node.is(SCHEMA_SPACE, local)
 }
 
 // Whether the node at a place is this element of XML Schema.
@@ -33,24 +31,12 @@ fn is_schema_element(tree: &Tree, local: &str, at: u32) -> bool
     is_schema_node(local, &tree.nodes()[at as usize])
 }
 
-/// The number of the node that a node of the document stands directly in.
-pub fn parent_of(tree: &Tree, at: u32) -> Option<u32>
-    requires { at < length tree.now }
-    ensures parent { result ≡ parent_of tree.now at }
-    ensures earlier { IfSome result (λ p. p < at) }
-{
-    tree.nodes()[at as usize].parent
-}
-
 /// The value of an attribute without namespace, without the white space around it.
 pub(crate) fn text_at<'a>(tree: &'a Tree, at: u32, local: &str) -> Option<&'a str>
     requires { at < length tree.now }
     ensures { option_map (λ text. text.now) result ≡ text_at tree.now at local.now }
 {
-    match tree.attribute(at, "", local) {
-        Some(value) => Some(trimmed(value)),
-        None => None,
-    }
+    tree.trimmed_attribute(at, "", local)
 }
 
 // Whether the node is this element of XML Schema, and a child of the root.
@@ -58,7 +44,7 @@ fn is_top(tree: &Tree, local: &str, at: u32) -> bool
     requires { at < length tree.now }
     ensures { result ≡ is_top tree.now local.now at }
 {
-    is_schema_element(tree, local, at) && is_root(parent_of(tree, at))
+    is_schema_element(tree, local, at) && is_place(0, tree.parent_of(at))
 }
 
 /// The name of a child of the root that is this element.
@@ -73,11 +59,12 @@ pub(crate) fn top_name<'a>(tree: &'a Tree, local: &str, at: u32) -> Option<&'a s
     }
 }
 
-fn is_root(place: Option<u32>) -> bool
-    ensures { result ≡ is_place 0 place }
+/// Whether there is a place, and it is this one.
+pub(crate) fn is_place(at: u32, place: Option<u32>) -> bool
+    ensures { result ≡ is_place at place }
 {
     match place {
-        Some(place) => place == 0,
+        Some(place) => place == at,
         None => false,
     }
 }
@@ -100,19 +87,8 @@ pub(crate) fn around(tree: &Tree, local: &str, at: u32) -> Option<u32>
     ensures earlier { IfSome result (λ p. p < at) }
 {
     if is_schema_element(tree, local, at) {
-        parent_of(tree, at)
+        tree.parent_of(at)
     } else {
         None
     }
-}
-
-/// How many nodes the document has.
-pub fn count(tree: &Tree) -> u32
-    ensures { result ≡ length tree.now }
-{
-    let nodes = tree.nodes();
-    // The root's end is behind all others, so the number of nodes is that of a u32.
-    let end = nodes[0].end;
-    prove!(nodes.len() <= end.max(1) as usize);
-    nodes.len() as u32
 }

@@ -16,7 +16,7 @@ mod tests;
 mod typed;
 
 pub use concepts::Concepts;
-pub use elements::{count, is_schema, parent_of};
+pub use elements::is_schema;
 pub use fault::SchemaFault;
 pub use kind::Kind;
 pub use schema::{Concept, Declared, NamedType, Schema};

@@ -6,7 +6,7 @@ ghost use Rattle.xc_concepts.specs.References.{type_name};
 ghost use Rattle.xc_concepts.specs.Steps.{reference_view};
 ghost use Rattle.xc_names.specs.Names.{KeepsNumbers};
 
-use crate::elements::{count, target, text_at, top_name};
+use crate::elements::{target, text_at, top_name};
 use crate::references::{Reference, base_of_type, type_name, type_of_element};
 use crate::schema::{Concept, Declared, NamedType, Schema};
 use std::alloc::Global;
@@ -44,7 +44,7 @@ fn read_concepts(alloc: Global, names: &mut Names, tree: &Tree) -> Result<Vec<Co
     ensures kept { KeepsNumbers names.old names.new }
 {
     let mut concepts = Vec::new(alloc);
-    for at in 0..count(tree) {
+    for at in 0..tree.count() {
         keep(&mut concepts, concept_at(alloc, names, tree, at)?)?;
     }
     Ok(concepts)
@@ -89,7 +89,7 @@ fn read_types(alloc: Global, tree: &Tree) -> Result<Vec<NamedType>, Memory>
     ensures { IfOk result (λ types. types.items ≡ named_types_in tree.now) }
 {
     let mut types = Vec::new(alloc);
-    for at in 0..count(tree) {
+    for at in 0..tree.count() {
         keep(&mut types, named_type_at(alloc, tree, at)?)?;
     }
     Ok(types)

@@ -1,11 +1,10 @@
 // The texts of a schema that name types, and the types that they name.
 ghost use Rattle.std.specs.Prelude.{◌≡◌, ◌<◌, IfSome, length, option_map};
-ghost use Rattle.xc_lists.specs.Places.{is_place};
 ghost use Rattle.xc_concepts.specs.Schemas.{restricted_type, restricted_element};
 ghost use Rattle.xc_concepts.specs.References.{default_space, type_name, base_at, first_base, base_of_type, type_of_element, judged_at};
 ghost use Rattle.xc_concepts.specs.Steps.{reference_view, lent_name, owner_of};
 
-use crate::elements::{around, count, text_at, top_name};
+use crate::elements::{around, is_place, text_at, top_name};
 use xc_chars::{is_plain_name, split};
 use xc_elements::Tree;
 
@@ -96,22 +95,13 @@ fn base_at<'a>(tree: &'a Tree, owner: Owner, element: u32, at: u32) -> Option<Re
     }
 }
 
-fn is_place(at: u32, place: Option<u32>) -> bool
-    ensures { result ≡ is_place at place }
-{
-    match place {
-        Some(place) => place == at,
-        None => false,
-    }
-}
-
 // What an element's content restricts stands inside it, so nothing behind its end is looked at.
 fn first_base<'a>(tree: &'a Tree, owner: Owner, element: u32) -> Option<Reference<'a>>
     requires { element < length tree.now }
     ensures reference { option_map reference_view result ≡ first_base tree.now (owner_of tree.now owner) element }
     ensures within { IfSome result (λ r. r.at < length tree.now) }
 {
-    let end = tree.nodes()[element as usize].end.min(count(tree));
+    let end = tree.nodes()[element as usize].end.min(tree.count());
     for at in element + 1..end {
         let base = base_at(tree, owner, element, at);
         if base.is_some() {

@@ -7,7 +7,7 @@ ghost use Rattle.xc_concepts.specs.Rules.{nameless_at, is_nameless, id_at, repea
 ghost use Rattle.xc_concepts.specs.Steps.{is_text_of, is_concept_of, nameless_fault, id_fault, concept_fault, earlier};
 ghost use Rattle.xc_names.specs.Names.{is_named};
 
-use crate::elements::{count, target, text_at, top_name};
+use crate::elements::{target, text_at, top_name};
 use crate::fault::SchemaFault;
 use crate::reading::keep;
 use crate::references::{judged_at, type_name};
@@ -76,7 +76,7 @@ fn first_nameless(tree: &Tree) -> Option<u32>
     ensures { result ≡ first_place (is_nameless tree.now) (places tree.now) }
 {
     let mut first = None;
-    for at in 0..count(tree) {
+    for at in 0..tree.count() {
         first = least(first, nameless_at(tree, at));
     }
     first
@@ -113,7 +113,7 @@ fn first_repeated_id(alloc: Global, tree: &Tree) -> Result<Option<u32>, Memory>
     ensures { IfOk result (λ at. at ≡ first_place (repeats_id tree.now) (places tree.now)) }
 {
     let mut ids = Vec::new(alloc);
-    for at in 0..count(tree) {
+    for at in 0..tree.count() {
         let id = id_at(tree, at);
         if has_text(ids.as_slice(), id) {
             return Ok(Some(at));
@@ -140,7 +140,7 @@ fn first_repeated_concept(
     ensures { IfOk result (λ at. at ≡ first_place (repeats_concept schemas.now tree.now) (places tree.now)) }
 {
     let mut names = Vec::new(alloc);
-    for at in 0..count(tree) {
+    for at in 0..tree.count() {
         let name = top_name(tree, "element", at);
         if is_taken(schemas, target(tree), names.as_slice(), name) {
             return Ok(Some(at));

@@ -1,14 +1,15 @@
 -- A shelf and a sink in memory of which no later call is to fail.
 use Rattle.std.proofs.Common.{◌≡◌, ℕ, ◌-◌, ◌/◌, ◌<◌, min, List, length, take, ◌++◌, Bool, true, false, nat_lt, Option, Some, None, Result, Ok, Err, refl, ap, ◌∙◌, arith}
-use Rattle.std.specs.Prelude.{⊤, IsNone, IsSome, is_none, IsTrue, OnErr, ◌||◌, ◌↔◌, if◌then◌else◌}
+use Rattle.std.specs.Prelude.{⊤, IsErrOf, IsNone, IsSome, is_none, IsTrue, OnErr, OnOk, ◌||◌, ◌↔◌, if◌then◌else◌}
 use Rattle.std.proofs.lemmas.Bool.Decides.{nat_tests}
 use Rattle.std.proofs.lemmas.List.{take_min}
 use Rattle.xc_io.specs.declared.sink.SinkFault.{SinkFault}
+use Rattle.xc_io.specs.declared.sink.SinkFault.TheVariants.{Failed}
 use Rattle.xc_io.specs.Faults.{next_count}
-use Rattle.xc_io.specs.Calls.{is_past, fails_next}
+use Rattle.xc_io.specs.Calls.{CallState, is_past, fails_next, after_call}
 use Rattle.xc_io.specs.MemoryShelf.{ShelfState, first_file, found, after_fetch}
 use Rattle.xc_io.specs.MemorySink.{SinkState, steady_room, is_fault, after_put}
-use Rattle.xc_io.proofs.Past.{past_stays, past_next}
+use Rattle.xc_io.proofs.Past.{faults_kept, past_stays, past_next}
 
 -- where the call does not fail, what is not found is not held
 absent_if : (fails : Bool) (held : Option (List ℕ)) → fails ≡ false → IsNone (if fails then None else held) → held ≡ None
@@ -74,3 +75,8 @@ filled sink piece n steady =
 pub on_err : (result : Result ⊤ SinkFault) (P : Type 0) → P → OnErr result P
 on_err (Ok done) P p = tt
 on_err (Err fault) P p = p
+
+-- a put that wrote its piece was no fault
+pub on_ok : (result : Result ⊤ SinkFault) (calls : CallState) (is_fault : Bool) → (IsErrOf result Failed ↔ IsTrue is_fault) → OnOk result ((after_call calls is_fault).faults ≡ calls.faults)
+on_ok (Ok done) calls is_fault fault = faults_kept calls is_fault (λ t. let e = fault.1 t in absurd (cc))
+on_ok (Err fault) calls is_fault both = tt

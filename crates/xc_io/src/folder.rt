@@ -1,5 +1,8 @@
 // A shelf over the files of the system.
-ghost use Rattle.std.specs.Prelude.{◌≡◌, ◌^◌, ◌-◌, ◌<◌, ◌≤◌, ℕ, length, take, IfOk, IfSome, MatchOption};
+ghost use Rattle.std.specs.Prelude.{◌≡◌, ◌^◌, ◌-◌, ◌<◌, ◌≤◌, length, take, Result, IfOk, IfSome, IsErrOf, MatchOption};
+ghost use Rattle.xc_io.specs.FolderShelf.{FolderState, OpenGives, fault_of, read_answer};
+ghost use Rattle.std.specs.declared.io.Error.{Error};
+ghost use Rattle.xc_io.specs.Faults.{Rose, next_count};
 
 use crate::{Shelf, ShelfFault};
 use std::alloc::Global;
@@ -17,24 +20,28 @@ use std::{fs, io};
 pub struct FolderShelf<'a, R: Files> {
     alloc: Global,
     rt: &'a R,
+    fetches: u64,
     faults: u64,
 }
 
-// A folder is seen as its count of faults.
+// A folder is seen as its counts.
 impl<'a, R: Files> Model for FolderShelf<'a, R> {
-    ghost Value = { ℕ };
+    ghost use Rattle.xc_io.specs.FolderShelf.{FolderState};
 
-    ghost view = { λ s. s.faults };
+    ghost Value = { FolderState };
+
+    ghost view = { λ s. record { fetches = s.fetches; faults = s.faults } };
 }
 
 impl<'a, R: Files> FolderShelf<'a, R> {
     /// A shelf over the files of `rt`, whose bytes are kept in memory of `alloc`.
     pub fn new(rt: &'a R, alloc: Global) -> Self
-        ensures { result ≡ 0 }
+        ensures { result ≡ record { fetches = 0; faults = 0 } }
     {
         FolderShelf {
             alloc,
             rt,
+            fetches: 0,
             faults: 0,
         }
     }
@@ -67,16 +74,42 @@ fn read_within<F: Read + Drop>(alloc: Global, reader: F, room: usize) -> io::Res
     }
 }
 
-fn read_file<R: Files>(
-    rt: &R,
-    alloc: Global,
-    path: &str,
-    room: usize,
-) -> io::Result<Option<Vec<u8>>>
-    requires { room < 2 ^ 64 - 1 }
-    ensures { IfOk result (λ read. IfSome read (λ bytes. length bytes.items ≤ room)) }
+// What is answered of an error on opening or reading.
+fn fault_of(error: &io::Error) -> ShelfFault
+    ensures { result ≡ fault_of error.now }
 {
-    read_within(alloc, fs::open(rt, path)?, room)
+    if error.kind() == ErrorKind::OutOfMemory {
+        ShelfFault::Memory
+    } else {
+        ShelfFault::Failed
+    }
+}
+
+// What is answered of what was read of a file.
+fn read_answer(read: io::Result<Option<Vec<u8>>>) -> Result<Vec<u8>, ShelfFault>
+    ensures { result ≡ read_answer read }
+{
+    match read {
+        Ok(Some(bytes)) => Ok(bytes),
+        Ok(None) => Err(ShelfFault::TooLong),
+        Err(error) => Err(fault_of(&error)),
+    }
+}
+
+// What is answered of a file that was opened, or was not.
+fn open_answer<F: Read + Drop>(
+    alloc: Global,
+    opened: io::Result<F>,
+    room: usize,
+) -> Result<Vec<u8>, ShelfFault>
+    requires { room < 2 ^ 64 - 1 }
+    ensures opened { OpenGives F.remaining opened room result }
+    ensures room { IfOk result (λ bytes. length bytes.items ≤ room) }
+{
+    match opened {
+        Ok(file) => read_answer(read_within(alloc, file, room)),
+        Err(error) => Err(fault_of(&error)),
+    }
 }
 
 impl<R: Files> Shelf for FolderShelf<'_, R> {
@@ -84,21 +117,29 @@ impl<R: Files> Shelf for FolderShelf<'_, R> {
 
     ghost held = { λ _. None };
 
-    ghost faults = { λ faults. faults };
+    ghost faults = { λ s. s.faults };
+
+    ghost fetches = { λ s. s.fetches };
 
     ghost steady = { λ _. false };
 
     ghost steady_tells = { λ s h. absurd (cc) };
 
-    fn fetch(&mut self, name: &str, room: usize) -> Result<Vec<u8>, ShelfFault> {
-        match read_file(self.rt, self.alloc, name, room) {
-            Ok(Some(bytes)) => Ok(bytes),
-            Ok(None) => Err(ShelfFault::TooLong),
-            Err(error) if error.kind() == ErrorKind::OutOfMemory => Err(ShelfFault::Memory),
-            Err(_) => {
-                self.faults = self.faults.saturating_add(1);
-                Err(ShelfFault::Failed)
-            }
+    fn fetch(&mut self, name: &str, room: usize) -> Result<Vec<u8>, ShelfFault>
+        requires { room < 2 ^ 64 - 1 }
+
+        // The answer is that of an attempt to open a file: there are bytes only where one was opened.
+        ensures opened { (opened : Result R.File Error) × OpenGives R.File.remaining opened room result }
+        ensures room { IfOk result (λ bytes. length bytes.items ≤ room) }
+        ensures failed { IsErrOf result ShelfFault.Failed → self.new.faults ≡ next_count self.old.faults }
+        ensures worked { ¬ IsErrOf result ShelfFault.Failed → self.new.faults ≡ self.old.faults }
+        ensures counted { self.new.fetches ≡ next_count self.old.fetches }
+    {
+        self.fetches = self.fetches.saturating_add(1);
+        let answer = open_answer(self.alloc, fs::open(self.rt, name), room);
+        if let Err(ShelfFault::Failed) = answer {
+            self.faults = self.faults.saturating_add(1);
         }
+        answer
     }
 }

@@ -74,6 +74,8 @@ impl Shelf for MemoryShelf {
 
     ghost faults = { λ s. s.calls.faults };
 
+    ghost fetches = { λ s. s.calls.made };
+
     ghost steady = { λ s. is_past s.calls };
 
     ghost steady_tells = { λ s _. refl };

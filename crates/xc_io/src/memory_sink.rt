@@ -70,6 +70,8 @@ impl Sink for MemorySink {
 
     ghost faults = { λ s. s.calls.faults };
 
+    ghost puts = { λ s. s.calls.made };
+
     ghost room = { steady_room };
 
     ghost steady_tells = { λ s n h. refl };

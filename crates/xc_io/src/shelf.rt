@@ -1,6 +1,6 @@
 // A place from which bytes are fetched by name.
 ghost use Rattle.std.specs.Prelude.{◌≡◌, ◌^◌, ◌-◌, ◌<◌, ◌≤◌, ℕ, Bool, true, Option, length, IfOk, IsErrOf, IfSome, IsSome};
-ghost use Rattle.xc_io.specs.Faults.{Rose};
+ghost use Rattle.xc_io.specs.Faults.{Rose, next_count};
 ghost use Rattle.xc_io.specs.Shelf.{Files, FetchGives};
 
 /// Why a fetch gave no bytes.
@@ -22,6 +22,9 @@ pub trait Shelf {
     /// How often a fetch has failed: a count that never falls.
     ghost faults: { Self → ℕ };
 
+    /// How many fetches were made: a count that stands still at its last value.
+    ghost fetches: { Self → ℕ };
+
     /// From here on no fetch of a name that is held fails.
     ghost steady: { Self → Bool };
 
@@ -30,7 +33,7 @@ pub trait Shelf {
     /// `ShelfFault::TooLong` says that more than `room` bytes are held: wherever that is so, the
     /// answer is this one or `ShelfFault::Failed`. `ShelfFault::Failed` comes only where the count
     /// of faults rose in this call, or stands at the end of its type; on a steady shelf, only for a
-    /// name that is not held.
+    /// name that is not held. No other answer raises that count.
     fn fetch(&mut self, name: &str, room: usize) -> Result<Vec<u8>, ShelfFault>
         requires { room < 2 ^ 64 - 1 }
         ensures bytes { IfSome (held self.old) (λ files. FetchGives (files name.now) room result) }
@@ -39,6 +42,8 @@ pub trait Shelf {
 
         ensures later { faults self.old ≤ faults self.new }
         ensures failed { IsErrOf result ShelfFault.Failed → Rose (faults self.old) (faults self.new) }
+        ensures worked { ¬ IsErrOf result ShelfFault.Failed → faults self.new ≡ faults self.old }
+        ensures counted { fetches self.new ≡ next_count (fetches self.old) }
 
         ensures stays { steady self.old ≡ true → steady self.new ≡ true }
         ensures answered { steady self.old ≡ true → IfSome (held self.old) (λ files.

@@ -13,6 +13,7 @@ use std::marker::Model;
 #[derive(Drop)]
 pub struct StreamSink<W: Write> {
     stream: W,
+    puts: u64,
     faults: u64,
 }
 
@@ -21,15 +22,19 @@ impl<W: Write> Model for StreamSink<W> {
 
     ghost Value = { StreamState };
 
-    ghost view = { λ s. record { written = W.contents s.stream; faults = s.faults } };
+    ghost view = { λ s. record { written = W.contents s.stream; puts = s.puts; faults = s.faults } };
 }
 
 impl<W: Write> StreamSink<W> {
     /// A sink over this writer.
     pub fn new(stream: W) -> Self
-        ensures { result ≡ record { written = W.contents stream; faults = 0 } }
+        ensures { result ≡ record { written = W.contents stream; puts = 0; faults = 0 } }
     {
-        StreamSink { stream, faults: 0 }
+        StreamSink {
+            stream,
+            puts: 0,
+            faults: 0,
+        }
     }
 }
 
@@ -53,11 +58,14 @@ impl<W: Write> Sink for StreamSink<W> {
 
     ghost faults = { λ s. s.faults };
 
+    ghost puts = { λ s. s.puts };
+
     ghost room = { λ _. None };
 
     ghost steady_tells = { λ s n h. absurd (cc) };
 
     fn put(&mut self, piece: &[u8]) -> Result<(), SinkFault> {
+        self.puts = self.puts.saturating_add(1);
         let mut rest = piece;
         while !rest.is_empty() {
             let count = write_some(&mut self.stream, rest);

@@ -1,6 +1,6 @@
 -- Without infinitely small parts, what lies in an interval of pairs is told by the real parts.
 use Rattle.std.proofs.Common.{◌≡◌, ◌||◌, refl, sym, ◌∙◌, subst, inl, inr, pos}
-use Rattle.std.specs.Prelude.{◌↔◌}
+use Rattle.std.specs.Prelude.{◌⊎◌, ◌↔◌}
 use Rattle.xc_model.specs.Fraction.{Fraction, SameNumber, IsBelow, whole, sum_of, neg_of}
 use Rattle.xc_model.proofs.Numbers.{same-refl, same-sym, same-trans}
 use Rattle.xc_frac.proofs.Orders.{number_order}
@@ -8,6 +8,7 @@ use Rattle.xc_frac.specs.Parts.{Parts, SameParts, IsLess, real_alone, sum_parts,
 use Rattle.xc_interval.specs.Arithmetic.{IsSumEnd, IsSumInterval, IsMadeEnd, IsTurned}
 use Rattle.xc_interval.specs.Ends.{value_of, is_open, end_at}
 use Rattle.xc_interval.specs.Intervals.{IsPast, IsBefore, Crosses, AreReal, pairs_of, reals_of, HasPair, HasNumber, HasNoPair, HasNoNumber}
+use Rattle.xc_interval.specs.Tightest.{IsTighterLow, IsTighterHigh}
 use Rattle.xc_interval.specs.declared.ends.End.{End}
 use Rattle.xc_interval.specs.declared.ends.End.TheVariants.{Closed, Open}
 use Rattle.xc_interval.specs.declared.interval.Interval.{Interval}
@@ -103,3 +104,22 @@ module _ {E : Type 0} (parts : E → Parts) (real : AreReal parts) where
   pub sum_interval : (i j s : Interval E) → IsSumInterval SameParts sum_parts (pairs_of parts i) (pairs_of parts j) (pairs_of parts s)
       → IsSumInterval SameNumber sum_of (reals_of parts i) (reals_of parts j) (reals_of parts s)
   sum_interval i j s h = record { low = sum_end i.low j.low s.low h.low; high = sum_end i.high j.high s.high h.high }
+
+  -- the tighter of two ends is so in both
+  less_or : (x y : E) (F : Type 0) → (IsLess (parts x) (parts y) ⊎ (SameParts (parts x) (parts y) × F)) ↔ (IsBelow (real_of x) (real_of y) ⊎ (SameNumber (real_of x) (real_of y) × F))
+  less_or x y F = (
+    λ h. elim h [ inl less ↦ inl (less_real (parts x) (parts y) (both_zero _ _ (real x) (real y)) less) | inr same ↦ inr (same.0.real, same.1) ],
+    λ h. elim h [ inl below ↦ inl (inl below) | inr same ↦ inr (record { real = same.0; tiny = both_zero _ _ (real x) (real y) }, same.1) ],
+  )
+
+  pub low_real : (e f : End E) → IsTighterLow IsLess SameParts (end_at parts e) (end_at parts f) ↔ IsTighterLow IsBelow SameNumber (end_at real_of e) (end_at real_of f)
+  low_real (Closed e) (Closed f) = less_or f e _
+  low_real (Closed e) (Open f) = less_or f e _
+  low_real (Open e) (Closed f) = less_or f e _
+  low_real (Open e) (Open f) = less_or f e _
+
+  pub high_real : (e f : End E) → IsTighterHigh IsLess SameParts (end_at parts e) (end_at parts f) ↔ IsTighterHigh IsBelow SameNumber (end_at real_of e) (end_at real_of f)
+  high_real (Closed e) (Closed f) = less_or e f _
+  high_real (Closed e) (Open f) = less_or e f _
+  high_real (Open e) (Closed f) = less_or e f _
+  high_real (Open e) (Open f) = less_or e f _

@@ -1,11 +1,16 @@
 -- What follows from the definitions for all intervals.
-use Rattle.std.specs.Prelude.{◌≡◌, ◌≢◌, pos, ◌↔◌}
+use Rattle.std.specs.Prelude.{◌≡◌, ◌≢◌, ℕ, ◌*◌, ◌+◌, ◌<◌, pos, ◌⊎◌, ◌↔◌, List, Option}
+use Prim.Native.Nat.{◌∣◌}
 use Rattle.xc_model.specs.Fraction.{Fraction}
 use Rattle.xc_model.specs.Ratio.{Ratio}
 use Rattle.xc_frac.specs.Parts.{real_alone}
 use Rattle.xc_interval.specs.Arithmetic.{IsSumInterval, IsSumFrom, IsScaled, IsMultiple}
 use Rattle.xc_interval.specs.Intervals.{LiesIn, Crosses, between, frac_parts, numbers_of, pairs_of, HasPair, HasNumber, HasNoPair}
+use Rattle.xc_interval.specs.Ranges.{IsRangeOf}
+use Rattle.xc_interval.specs.Scales.{AreOnScale, saturated}
+use Rattle.xc_interval.specs.declared.ends.End.{End}
 use Rattle.xc_interval.specs.declared.interval.Interval.{Interval}
+use Rattle.xc_interval.specs.declared.range.Range.{Range}
 
 module _ {A : Type 0} (Less Same : A → A → Type 0) where
   -- an interval is empty exactly where nothing lies in it; where it is not, something does
@@ -29,3 +34,32 @@ HasRealsAlone = (i : Interval Fraction) (x : Fraction) → HasPair (between (λ 
 abbrev pub HasOneInterval : Type 0
 HasOneInterval = (i j : Interval Ratio) → ¬ HasNoPair (pairs_of frac_parts i) → ¬ HasNoPair (pairs_of frac_parts j)
     → ((x : Fraction) → HasNumber (numbers_of i) x ↔ HasNumber (numbers_of j) x) → i ≡ j
+
+-- several intervals give one range
+abbrev pub HasOneRangeOf : Type 0
+HasOneRangeOf = (es : List (Option (Interval Ratio))) (r s : Range) → IsRangeOf es r → IsRangeOf es s → r ≡ s
+
+-- how ends of one side go by tightness, where an end admits what is past it, or before it
+pub record IsTightness {A : Type 0} (Tighter : End A → End A → Type 0) (Admits : End A → A → Type 0) : Type 0 where
+  -- no two are tighter than each other
+  pub asymmetric : (e f : End A) → Tighter e f → Tighter f e → ⊥
+  -- where e is tighter than g, any third is less tight than e or tighter than g
+  pub either : (e f g : End A) → Tighter e g → Tighter e f ⊎ Tighter f g
+  -- what a tighter end admits, the other does
+  pub lets : (e f : End A) → Tighter e f → (x : A) → Admits e x → Admits f x
+  -- what an end admits, one that is not tighter does
+  pub keeps : (e f : End A) → ¬ Tighter e f → (x : A) → Admits f x → Admits e x
+
+-- every range has a common denominator, and its multiples are common denominators too
+abbrev pub HaveScales : Type 0
+HaveScales = (r : Range) → (d : ℕ) × ((0 < d) × AreOnScale d r)
+
+abbrev pub ScalesGrow : Type 0
+ScalesGrow = (r : Range) (d m : ℕ) → d ∣ m → AreOnScale d r → AreOnScale m r
+
+-- sums and products of numbers that stay at the end of 128 bits are those of the exact ones, as far as they stay there
+abbrev pub SumsStay : Type 0
+SumsStay = (a b : ℕ) → saturated (saturated a + saturated b) ≡ saturated (a + b)
+
+abbrev pub ProductsStay : Type 0
+ProductsStay = (a b : ℕ) → saturated (a * saturated b) ≡ saturated (a * b)

@@ -4,4 +4,8 @@ pub mod Ends
 pub mod Intervals
 pub mod Laws
 pub mod Powers
+pub mod Ranges
 pub mod Reported
+pub mod Scales
+pub mod Steps
+pub mod Tightest

@@ -1,5 +1,12 @@
-ghost use Rattle.std.specs.Prelude.{◌≡◌};
-ghost use Rattle.xc_interval.specs.Ends.{value_of, is_open};
+ghost use Rattle.std.specs.Prelude.{◌≡◌, ◌↔◌, IsTrue, ◌&&◌, not};
+ghost use Rattle.xc_model.specs.Fraction.{SameNumber, IsBelow};
+ghost use Rattle.xc_frac.specs.Parts.{IsLess, SameParts};
+ghost use Rattle.xc_interval.specs.Ends.{value_of, is_open, end_at};
+ghost use Rattle.xc_interval.specs.Intervals.{AreReal};
+ghost use Rattle.xc_interval.specs.Tightest.{IsTighterLow, IsTighterHigh};
+
+use std::cmp::Ordering;
+use xc_frac::Exact;
 
 /// One end of an interval.
 #[derive(Clone, Copy, Debug, PartialEq, Eq)]
@@ -40,6 +47,46 @@ impl<E: Copy> End<E> {
             End::Open(value)
         } else {
             End::Closed(value)
+        }
+    }
+
+    // Whether it is open where another is closed.
+    fn opens_beside(self, other: End<E>) -> bool
+        ensures { result ≡ (is_open self && not (is_open other)) }
+    {
+        self.is_open() && !other.is_open()
+    }
+}
+
+impl<E: Exact> End<E> {
+    /// Whether this low end is tighter than another: higher, or at the same value and open where the other is
+    /// closed. Of ends that are equally tight neither is tighter, so whoever keeps an end until a tighter one comes
+    /// keeps the first of equal ones.
+    pub fn is_tighter_low(self, other: End<E>) -> bool
+        ensures pairs { IsTrue result
+            ↔ IsTighterLow IsLess SameParts (end_at E.parts self) (end_at E.parts other) }
+        ensures numbers { AreReal E.parts → IsTrue result ↔ IsTighterLow IsBelow SameNumber
+            (end_at (λ e. (E.parts e).real) self) (end_at (λ e. (E.parts e).real) other) }
+    {
+        match self.value().compare(other.value()) {
+            Ordering::Less => false,
+            Ordering::Equal => self.opens_beside(other),
+            Ordering::Greater => true,
+        }
+    }
+
+    /// Whether this high end is tighter than another: lower, or at the same value and open where the other is
+    /// closed. Of ends that are equally tight neither is tighter.
+    pub fn is_tighter_high(self, other: End<E>) -> bool
+        ensures pairs { IsTrue result
+            ↔ IsTighterHigh IsLess SameParts (end_at E.parts self) (end_at E.parts other) }
+        ensures numbers { AreReal E.parts → IsTrue result ↔ IsTighterHigh IsBelow SameNumber
+            (end_at (λ e. (E.parts e).real) self) (end_at (λ e. (E.parts e).real) other) }
+    {
+        match self.value().compare(other.value()) {
+            Ordering::Less => true,
+            Ordering::Equal => self.opens_beside(other),
+            Ordering::Greater => false,
         }
     }
 }

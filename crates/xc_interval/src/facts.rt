@@ -12,7 +12,7 @@ ghost use Rattle.xc_interval.specs.Reported.{IsNearPlace, IsSameInterval, report
 use crate::ends::End;
 use crate::interval::Interval;
 use crate::mode::Mode;
-use xc_frac::{Frac, Wide};
+use xc_frac::{Frac, Wide, power, ratio};
 
 /// The interval of a fact with this value and decimals, from -37 to 37; without decimals the value
 /// alone. Or the operation for an end that passes: under rounding the difference with half a unit of
@@ -139,7 +139,7 @@ fn unit_of(decimals: i32) -> Frac
 {
     let power = power(decimals.unsigned_abs());
     if decimals < 0 {
-        ratio(power, 1)
+        ratio(power as i128, 1)
     } else {
         ratio(1, power)
     }
@@ -152,28 +152,8 @@ fn half_of(decimals: i32) -> Frac
 {
     let power = power(decimals.unsigned_abs());
     if decimals < 0 {
-        ratio(power, 2)
+        ratio(power as i128, 2)
     } else {
         ratio(1, 2 * power)
     }
-}
-
-// 10^places.
-fn power(places: u32) -> u128
-    requires { places ≤ 37 }
-    ensures is { result ≡ 10 ^ places }
-    ensures narrow { result < 2 ^ 126 }
-    ensures positive { 0 < result }
-{
-    10u128.pow(places)
-}
-
-// num / den.
-fn ratio(num: u128, den: u128) -> Frac
-    requires num { num < 2 ^ 127 }
-    requires den { den < 2 ^ 127 }
-    requires positive { 0 < den }
-    ensures { IsOver result (pos num) den }
-{
-    Frac::of(num as i128, den as i128).unwrap()
 }

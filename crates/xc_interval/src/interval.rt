@@ -7,6 +7,7 @@ ghost use Rattle.xc_frac.specs.declared.wide.Wide.{Wide};
 ghost use Rattle.xc_interval.specs.Arithmetic.{IsSumEnd, IsMadeEnd, IsSumInterval, IsSumOfPairs, IsSumOfNumbers, IsTurned, IsNegativeOfPair, IsNegativeOfNumber, IsScaled, IsMultiple};
 ghost use Rattle.xc_interval.specs.Ends.{value_of, end_at};
 ghost use Rattle.xc_interval.specs.Intervals.{pairs_of, reals_of, AreReal, HasPair, HasNoPair, HasNumber, HasNoNumber, TellsNone, IsPast, IsBefore};
+ghost use Rattle.xc_interval.specs.Tightest.{IsTighterLow, IsTighterHigh};
 
 use crate::ends::End;
 use std::cmp::Ordering;
@@ -46,9 +47,17 @@ impl<E: Exact> Interval<E> {
             ↔ (HasPair (pairs_of E.parts self.now) x × HasPair (pairs_of E.parts other.now) x) }
         ensures numbers { AreReal E.parts → (x : Fraction) → HasNumber (reals_of E.parts result) x
             ↔ (HasNumber (reals_of E.parts self.now) x × HasNumber (reals_of E.parts other.now) x) }
-        // each end is one of the two
+        // each end is one of the two: its own, unless the other's is tighter
         ensures low { (result.low ≡ self.now.low) ⊎ (result.low ≡ other.now.low) }
         ensures high { (result.high ≡ self.now.high) ⊎ (result.high ≡ other.now.high) }
+        ensures low_kept { ¬ IsTighterLow IsLess SameParts
+            (end_at E.parts other.now.low) (end_at E.parts self.now.low) → result.low ≡ self.now.low }
+        ensures low_taken { IsTighterLow IsLess SameParts
+            (end_at E.parts other.now.low) (end_at E.parts self.now.low) → result.low ≡ other.now.low }
+        ensures high_kept { ¬ IsTighterHigh IsLess SameParts
+            (end_at E.parts other.now.high) (end_at E.parts self.now.high) → result.high ≡ self.now.high }
+        ensures high_taken { IsTighterHigh IsLess SameParts
+            (end_at E.parts other.now.high) (end_at E.parts self.now.high) → result.high ≡ other.now.high }
     {
         Interval {
             low: higher(self.low, other.low),
@@ -158,31 +167,33 @@ fn is_before<E: Exact>(high: End<E>, value: E) -> bool
     }
 }
 
-// The tighter of two low ends: the higher, and of two at one value an open one.
+// The tighter of two low ends, the first where neither is tighter.
 fn higher<E: Exact>(one: End<E>, other: End<E>) -> End<E>
+    ensures kept { ¬ IsTighterLow IsLess SameParts (end_at E.parts other) (end_at E.parts one) → result ≡ one }
+    ensures taken { IsTighterLow IsLess SameParts (end_at E.parts other) (end_at E.parts one) → result ≡ other }
     ensures one { (result ≡ one) ⊎ (result ≡ other) }
     ensures both { (x : Parts) → IsPast IsLess SameParts (end_at E.parts result) x
         ↔ (IsPast IsLess SameParts (end_at E.parts one) x × IsPast IsLess SameParts (end_at E.parts other) x) }
 {
-    match one.value().compare(other.value()) {
-        Ordering::Less => other,
-        Ordering::Greater => one,
-        Ordering::Equal if one.is_open() => one,
-        Ordering::Equal => other,
+    if other.is_tighter_low(one) {
+        other
+    } else {
+        one
     }
 }
 
-// The tighter of two high ends: the lower, and of two at one value an open one.
+// The tighter of two high ends, the first where neither is tighter.
 fn lower<E: Exact>(one: End<E>, other: End<E>) -> End<E>
+    ensures kept { ¬ IsTighterHigh IsLess SameParts (end_at E.parts other) (end_at E.parts one) → result ≡ one }
+    ensures taken { IsTighterHigh IsLess SameParts (end_at E.parts other) (end_at E.parts one) → result ≡ other }
     ensures one { (result ≡ one) ⊎ (result ≡ other) }
     ensures both { (x : Parts) → IsBefore IsLess SameParts (end_at E.parts result) x
         ↔ (IsBefore IsLess SameParts (end_at E.parts one) x × IsBefore IsLess SameParts (end_at E.parts other) x) }
 {
-    match one.value().compare(other.value()) {
-        Ordering::Less => one,
-        Ordering::Greater => other,
-        Ordering::Equal if one.is_open() => one,
-        Ordering::Equal => other,
+    if other.is_tighter_high(one) {
+        other
+    } else {
+        one
     }
 }
 

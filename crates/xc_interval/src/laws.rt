@@ -2,7 +2,9 @@
 //! where its proof needs the clauses.
 ghost use Rattle.xc_model.specs.Fraction.{SameNumber, IsBelow, sum_of};
 ghost use Rattle.xc_frac.specs.Parts.{IsLess, SameParts, sum_parts};
-ghost use Rattle.xc_interval.specs.Laws.{EndsTell, HasSums, HasMultiples, HasRealsAlone, HasOneInterval};
+ghost use Rattle.xc_interval.specs.Intervals.{IsPast, IsBefore};
+ghost use Rattle.xc_interval.specs.Laws.{EndsTell, HasSums, HasMultiples, HasRealsAlone, HasOneInterval, HasOneRangeOf, IsTightness, HaveScales, ScalesGrow, SumsStay, ProductsStay};
+ghost use Rattle.xc_interval.specs.Tightest.{IsTighterLow, IsTighterHigh};
 
 use xc_frac::laws::lowest_terms;
 
@@ -35,3 +37,30 @@ pub fn one_interval()
 {
     lowest_terms();
 }
+
+/// Several intervals give one range.
+pub fn one_range()
+    ensures { HasOneRangeOf }
+{
+    lowest_terms();
+}
+
+/// How ends go by tightness.
+pub fn tighter_ends()
+    ensures low_numbers { IsTightness (IsTighterLow IsBelow SameNumber) (IsPast IsBelow SameNumber) }
+    ensures high_numbers { IsTightness (IsTighterHigh IsBelow SameNumber) (IsBefore IsBelow SameNumber) }
+    ensures low_pairs { IsTightness (IsTighterLow IsLess SameParts) (IsPast IsLess SameParts) }
+    ensures high_pairs { IsTightness (IsTighterHigh IsLess SameParts) (IsBefore IsLess SameParts) }
+{}
+
+/// Ranges have common denominators, and so have several of them.
+pub fn scales()
+    ensures some { HaveScales }
+    ensures grow { ScalesGrow }
+{}
+
+/// Sums and products may be cut at the end of 128 bits before they are added or multiplied.
+pub fn saturated_sums()
+    ensures sums { SumsStay }
+    ensures products { ProductsStay }
+{}

@@ -8,6 +8,7 @@ mod interval;
 pub mod laws;
 mod mode;
 mod range;
+mod scale;
 #[cfg(test)]
 mod tests;
 

@@ -1,24 +1,17 @@
-use Rattle.std.proofs.Common.{◌≡◌, true, false, sym, ◌∙◌}
-use Rattle.xc_frac.proofs.Orders.{same_parts}
-use Rattle.xc_interval.proofs.Tighter.{past_less, past_same, swapped}
+use Rattle.std.proofs.Common.{◌≡◌, true, false, refl}
+use Rattle.xc_frac.specs.Parts.{IsLess, SameParts}
+use Rattle.xc_interval.specs.Ends.{end_at}
+use Rattle.xc_interval.proofs.Numbers.{pair_dense}
+use Rattle.xc_interval.proofs.Tighter.{low_tightness, both_where, both_unless}
 use Rattle.xc_interval.proofs.interval.higher.Goals as goal
 
-no : true ≡ false → ⊥
+no : false ≡ true → ⊥
 no e = cc
 
-pub returns-in-Less-clause-both : goal.returns-in-Less-clause-both
-returns-in-Less-clause-both g c =
-    past_less g.E.Exact.parts c.args.one c.args.other c.value.result c.value-2.result c.value.ensures c.value-2.ensures c.in-Less.ensures
+pub returns-then-is_tighter_low-clause-both : goal.returns-then-is_tighter_low-clause-both
+returns-then-is_tighter_low-clause-both g c =
+    both_where (low_tightness IsLess SameParts pair_dense) (end_at g.E.Exact.parts c.args.one) (end_at g.E.Exact.parts c.args.other) (c.if-is_tighter_low.ensures.pairs.0 refl)
 
-pub returns-in-Greater-clause-both : goal.returns-in-Greater-clause-both
-returns-in-Greater-clause-both g c x =
-    swapped (past_less g.E.Exact.parts c.args.other c.args.one c.value-2.result c.value.result c.value-2.ensures c.value.ensures c.in-Greater.ensures x)
-
-pub returns-in-Equal-clause-both : goal.returns-in-Equal-clause-both
-returns-in-Equal-clause-both g c x =
-    swapped (past_same g.E.Exact.parts c.args.other c.args.one c.value-2.result c.value.result c.value-2.ensures c.value.ensures (same_parts.symmetric _ _ c.in-Equal.ensures)
-    (λ closed. absurd (no (c.if-is_open.ensures ∙ closed))) x)
-
-pub returns-in-Equal-2-clause-both : goal.returns-in-Equal-2-clause-both
-returns-in-Equal-2-clause-both g c =
-    past_same g.E.Exact.parts c.args.one c.args.other c.value.result c.value-2.result c.value.ensures c.value-2.ensures c.in-Equal-2.ensures (λ closed. sym c.if-is_open.ensures)
+pub returns-else-is_tighter_low-clause-both : goal.returns-else-is_tighter_low-clause-both
+returns-else-is_tighter_low-clause-both g c =
+    both_unless (low_tightness IsLess SameParts pair_dense) (end_at g.E.Exact.parts c.args.one) (end_at g.E.Exact.parts c.args.other) (λ tighter. no (c.if-is_tighter_low.ensures.pairs.1 tighter))

@@ -81,6 +81,36 @@ cleared_one b d p one = record {
   ];
 }
 
+-- in 0 there is nothing but the other
+pub cleared_zero : (n d : ℤ) → n ≡ pos 0 → d ≢ pos 0 → IsCleared n d (pos 0) (pos 1)
+cleared_zero n d e some = record {
+  factor = d;
+  left = omega (arith, ints, e);
+  right = omega (arith, ints);
+  positive = omega (arith, ints);
+  coprime = λ k l r. eq-one_of_dvd-one r;
+}
+
+-- nor in 1
+pub cleared_by_one : (n d : ℤ) → d ≡ pos 1 → IsCleared n d n (pos 1)
+cleared_by_one n d e = record {
+  factor = pos 1;
+  left = omega (arith, ints);
+  right = omega (arith, ints, e);
+  positive = omega (arith, ints);
+  coprime = λ k l r. eq-one_of_dvd-one r;
+}
+
+-- and beside 1 or -1 there is nothing in common
+pub cleared_unit : (n d u : ℤ) → n ≡ u → unsigned_abs u ≡ 1 → pos 0 <ℤ d → IsCleared n d u d
+cleared_unit n d u e one p = record {
+  factor = pos 1;
+  left = omega (arith, ints, e);
+  right = omega (arith, ints);
+  positive = p;
+  coprime = λ k l r. eq-one_of_dvd-one (subst (λ z. k ∣ z) one l);
+}
+
 -- the ratio stays
 pub cleared_ratio : (n d p q : ℤ) → IsCleared n d p q → p *ℤ d ≡ n *ℤ q
 cleared_ratio n d p q x =

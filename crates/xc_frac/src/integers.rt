@@ -6,8 +6,29 @@ ghost use Prim.Native.Nat.{◌∣◌};
 ghost use Rattle.xc_frac.specs.Cleared.{IsCleared};
 ghost use Rattle.xc_model.specs.Width.{IsNarrow};
 
-// The greatest common divisor, by Euclid's algorithm.
+// The greatest common divisor, by Euclid's algorithm: in 64 bits as soon as the lesser number fits
+// them.
 pub fn gcd(a: u128, b: u128) -> u128
+    ensures { IsGcd a b result }
+{
+    let mut x = a;
+    let mut y = b;
+    while y > LONGEST {
+        let rest = x % y;
+        x = y;
+        y = rest;
+    }
+    if y == 0 {
+        return x;
+    }
+    u128::from(short_gcd(y as u64, (x % y) as u64))
+}
+
+// The greatest number of 64 bits.
+const LONGEST: u128 = (1 << 64) - 1;
+
+// The greatest common divisor of numbers of 64 bits.
+fn short_gcd(a: u64, b: u64) -> u64
     ensures { IsGcd a b result }
 {
     let mut x = a;
@@ -56,7 +77,8 @@ fn exact_quotient(n: i128, s: i128) -> i128
     n / s
 }
 
-// num and den without their common factor, which takes the sign of den.
+// num and den without their common factor, which takes the sign of den. Where one of them is 0, 1
+// or -1, no divisor is sought.
 pub fn cleared(num: i128, den: i128) -> (i128, i128)
     requires num_narrow { IsNarrow num }
     requires den_narrow { IsNarrow den }
@@ -65,7 +87,36 @@ pub fn cleared(num: i128, den: i128) -> (i128, i128)
     ensures num { IsNarrow result.0 }
     ensures den { IsNarrow result.1 }
 {
+    if num == 0 {
+        return (0, 1);
+    }
+    if den == 1 {
+        return (num, 1);
+    }
+    if den > 0 {
+        if num == 1 {
+            return (1, den);
+        }
+        if num == -1 {
+            return (-1, den);
+        }
+    }
+    divided(num, den)
+}
+
+// num and den over their greatest common divisor.
+fn divided(num: i128, den: i128) -> (i128, i128)
+    requires num_narrow { IsNarrow num }
+    requires den_narrow { IsNarrow den }
+    requires some { den ≢ pos 0 }
+    ensures cleared { IsCleared num den result.0 result.1 }
+    ensures num { IsNarrow result.0 }
+    ensures den { IsNarrow result.1 }
+{
     let s = divisor(num, den);
+    if s == 1 {
+        return (num, den);
+    }
     (exact_quotient(num, s), exact_quotient(den, s))
 }
 

@@ -4,9 +4,9 @@ use Rattle.std.specs.Prelude.{encode_utf8_all}
 use Rattle.std.proofs.lemmas.List.{append-nil}
 use Rattle.std.proofs.lemmas.Str.{encodes-append}
 use Rattle.xc_elements.specs.Items.{Name, Pair, Meaning, Declaration, Start, Empty, End, Comment, Instruction, Section, Letter, Reference}
-use Rattle.xc_elements.specs.Kept.{Kept, with_text, AreBelow}
+use Rattle.xc_elements.specs.Steps.Kept.{Kept, with_text, AreBelow}
 use Rattle.xc_elements.specs.Elements.{begun, open_at, begun_inside, is_return, item_text, text_inside, nodes_from}
-use Rattle.xc_elements.specs.Reading.{ended, completed}
+use Rattle.xc_elements.specs.Steps.Reading.{ended, completed}
 use Rattle.xc_elements.specs.declared.nodes.Node.{Node}
 
 -- ---- items that neither begin nor end an element

@@ -5,7 +5,7 @@ use Rattle.std.specs.List.{list_any}
 use Rattle.std.specs.Str.{bytes_eq}
 use Rattle.std.proofs.lemmas.Slice.Eq.{bytes_eq-Decides}
 use Rattle.std.proofs.lemmas.Bool.Decides.{Decides-like, same_from_decides}
-use Rattle.xc_elements.specs.Doubles.{name_parts}
+use Rattle.xc_elements.specs.Steps.Doubles.{name_parts}
 use Rattle.xc_elements.specs.Namespaces.{has_double}
 use Rattle.xc_elements.specs.Trees.{is_named}
 use Rattle.xc_elements.specs.declared.nodes.Attribute.{Attribute}

@@ -8,8 +8,8 @@ use Rattle.std.proofs.lemmas.Str.{encodes-append, length-le-encodes}
 use Rattle.xc_elements.specs.Items.{Meaning, item, begins_doctype}
 use Rattle.xc_elements.specs.Documents.{Piece, AreItems, joined, Cuts, begins, bytes_of, text_of, StopsAt}
 use Rattle.xc_elements.specs.Elements.{is_unbalanced, is_unfinished, is_too_deep, has_no_space, has_same_attribute}
-use Rattle.xc_elements.specs.Reading.{IsFine, IsRefused}
-use Rattle.xc_elements.specs.Faults.{refused_at}
+use Rattle.xc_elements.specs.Steps.Reading.{IsFine, IsRefused}
+use Rattle.xc_elements.specs.Steps.Refusals.{refused_at}
 use Rattle.xc_elements.specs.DocumentTrees.{meanings, backward, HasAt, EndsAt, Stands, byte_of, rank_of, IsBefore, IsFirstFault, IsRefusal}
 use Rattle.xc_elements.specs.declared.fault.TreeFault.{TreeFault}
 use Rattle.xc_elements.specs.declared.fault.TreeFault.TheVariants as faults

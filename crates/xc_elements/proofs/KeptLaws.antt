@@ -4,10 +4,10 @@ use Rattle.std.specs.Prelude.{map, reverse, encode_utf8_all}
 use Rattle.std.specs.List.{filter_map}
 use Rattle.std.proofs.lemmas.List.{length-append, drop_at, append-nil}
 use Rattle.xc_elements.specs.Items.{Name, Pair, Meaning, Declaration, Start, Empty, End, Comment, Instruction, Section, Letter, Reference}
-use Rattle.xc_elements.specs.Kept.{Kept, with_text, none_kept, innermost_kept, AreBelow}
+use Rattle.xc_elements.specs.Steps.Kept.{Kept, with_text, none_kept, innermost_kept, AreBelow}
 use Rattle.xc_elements.specs.Namespaces.{Binding, Tag, tag_of, declarations, binding_of}
 use Rattle.xc_elements.specs.Elements.{begun, Open, open_at, open_behind, begun_inside, is_return, item_text, text_inside, innermost, nodes_from, node_at, declared_at, is_outside}
-use Rattle.xc_elements.specs.Reading.{AreOpen, ended, completed, IsKeptOf, HasNode, new_node}
+use Rattle.xc_elements.specs.Steps.Reading.{AreOpen, ended, completed, IsKeptOf, HasNode, new_node}
 use Rattle.xc_elements.specs.declared.nodes.Node.{Node}
 use Rattle.xc_elements.proofs.CompletedLaws.{IsPlain, completed_plain, completed_start, completed_empty, completed_end, completed_before, length-ended, ended_last}
 

@@ -6,7 +6,7 @@ use Rattle.std.proofs.Math.Seq.{take-suc}
 use Rattle.std.proofs.lemmas.List.{take_all, length-take-le, set_at, append-nil}
 use Rattle.std.proofs.lemmas.Str.{encodes-append}
 use Rattle.xc_elements.specs.Elements.{line_character, section_text}
-use Rattle.xc_elements.specs.Kept.{Kept, kept, with_text}
+use Rattle.xc_elements.specs.Steps.Kept.{Kept, kept, with_text}
 use Rattle.xc_elements.specs.declared.opens.OpenElement.{OpenElement}
 use Rattle.xc_elements.proofs.StackLaws.{backward_more}
 

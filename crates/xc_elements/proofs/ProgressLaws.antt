@@ -7,9 +7,10 @@ use Rattle.std.proofs.lemmas.Str.{encodes-chars, length-le-encodes}
 use Rattle.xc_elements.specs.Items.{Meaning, Declaration, Start, Empty, End, Comment, Instruction, Section, Letter, Reference, item, is_nil, begins_doctype}
 use Rattle.xc_elements.specs.Documents.{Piece, Cuts, begins, joined, bytes_of, text_of, fault_at, IsFault}
 use Rattle.xc_elements.specs.Elements.{begun, open_at, is_outside, is_unfinished, nodes_from, nodes_of}
-use Rattle.xc_elements.specs.Kept.{Kept, none_kept, AreBelow}
-use Rattle.xc_elements.specs.Reading.{Reads, IsFine, IsRefused, whole, completed}
-use Rattle.xc_elements.specs.Faults.{tree_fault, refused_at}
+use Rattle.xc_elements.specs.Steps.Kept.{Kept, none_kept, AreBelow}
+use Rattle.xc_elements.specs.Steps.Reading.{Reads, IsFine, IsRefused, whole, completed}
+use Rattle.xc_elements.specs.Faults.{tree_fault}
+use Rattle.xc_elements.specs.Steps.Refusals.{refused_at}
 use Rattle.xc_elements.specs.DocumentTrees.{meanings, backward, IsFirstFault, IsRefusal, IsTreeOf}
 use Rattle.xc_elements.specs.declared.nodes.Node.{Node}
 use Rattle.xc_elements.specs.declared.reader.Reader.{Reader}

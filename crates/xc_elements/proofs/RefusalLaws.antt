@@ -2,10 +2,10 @@
 use Rattle.std.proofs.Common.{◌≡◌, Bool, ◌&&◌, List, [], ◌∷◌, ◌++◌, length, refl, sym, ap, subst, ◌∙◌}
 use Rattle.std.specs.Prelude.{map, nat_lt, nat_le, Result, Ok, Err, IsErr, IsErrAnd, IfErr}
 use Rattle.xc_elements.specs.Items.{Name, Pair, Meaning, Start, Empty}
-use Rattle.xc_elements.specs.Kept.{Kept, none_kept}
+use Rattle.xc_elements.specs.Steps.Kept.{Kept, none_kept}
 use Rattle.xc_elements.specs.Namespaces.{Binding, Tag, tag_of, declarations, expand, tag_lacks_space, has_double}
 use Rattle.xc_elements.specs.Elements.{begun, open_at, declared_at, is_behind_root}
-use Rattle.xc_elements.specs.Reading.{IsKeptOf, IsFine, IsRefused, IsRefusedAt, HasNode}
+use Rattle.xc_elements.specs.Steps.Reading.{IsKeptOf, IsFine, IsRefused, IsRefusedAt, HasNode}
 use Rattle.xc_elements.specs.declared.nodes.Node.{Node}
 use Rattle.xc_elements.specs.declared.refusal.Refusal.{Refusal}
 use Rattle.xc_elements.specs.declared.refusal.Refusal.TheVariants as refusals

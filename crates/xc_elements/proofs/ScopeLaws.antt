@@ -7,7 +7,7 @@ use Rattle.std.specs.Str.{bytes_eq, chars}
 use Rattle.std.proofs.lemmas.List.{map-append, reverse-append, reverse-reverse, length-reverse, get_or_push, get_or_append_left}
 use Rattle.std.proofs.lemmas.Slice.Eq.{bytes_eq-Decides}
 use Rattle.xc_elements.specs.Namespaces.{Binding, nearest}
-use Rattle.xc_elements.specs.Bindings.{binding_view, byte_of, place_in, AreLinked, IsIndexed}
+use Rattle.xc_elements.specs.Steps.Bindings.{binding_view, place_of, place_in, AreLinked, IsIndexed}
 use Rattle.xc_elements.specs.Views.{lent}
 use Rattle.xc_elements.specs.declared.scope.BoundPrefix.{BoundPrefix}
 
@@ -65,24 +65,24 @@ found_further b outer prefix place e further =
           ∙ ap (λ x. Some x.space) (sym (ap (λ bs. get_or bs place d) (reverse-append (b ∷ []) outer) ∙ get_or_append_left (reverse outer) (b ∷ []) d place within));
     }
 
-found_at : (bound : List BoundPrefix) (prefix : List ℕ) (place : ℕ) → encode_utf8_all (chars prefix) ≡ prefix → AreLinked bound → byte_of prefix bound ≡ Some place → IsAt bound prefix place
+found_at : (bound : List BoundPrefix) (prefix : List ℕ) (place : ℕ) → encode_utf8_all (chars prefix) ≡ prefix → AreLinked bound → place_of prefix bound ≡ Some place → IsAt bound prefix place
 found_at [] prefix place utf8 linked found = absurd (true≢false (sym (ap is_some found)))
 found_at (b ∷ outer) prefix place utf8 linked found = by (found_at outer prefix place utf8 linked.2) (bytes_eq b.prefix.now prefix) refl
   where
-    by : (byte_of prefix outer ≡ Some place → IsAt outer prefix place) → (t : Bool) → bytes_eq b.prefix.now prefix ≡ t → IsAt (b ∷ outer) prefix place
+    by : (place_of prefix outer ≡ Some place → IsAt outer prefix place) → (t : Bool) → bytes_eq b.prefix.now prefix ≡ t → IsAt (b ∷ outer) prefix place
     by further true e = found_here b outer prefix place (sym (equal_by_chars b.prefix.now prefix linked.0 utf8) ∙ e)
-        (ap (λ o. unwrap_or o 0) (sym (ap (λ t. cond t (Some (length outer)) (byte_of prefix outer)) e) ∙ found))
+        (ap (λ o. unwrap_or o 0) (sym (ap (λ t. cond t (Some (length outer)) (place_of prefix outer)) e) ∙ found))
     by further false e = found_further b outer prefix place (sym (equal_by_chars b.prefix.now prefix linked.0 utf8) ∙ e)
-        (further (sym (ap (λ t. cond t (Some (length outer)) (byte_of prefix outer)) e) ∙ found))
+        (further (sym (ap (λ t. cond t (Some (length outer)) (place_of prefix outer)) e) ∙ found))
 
-found_nowhere : (bound : List BoundPrefix) (prefix : List ℕ) → encode_utf8_all (chars prefix) ≡ prefix → AreLinked bound → byte_of prefix bound ≡ None → nearest (map binding_view bound) (chars prefix) ≡ None
+found_nowhere : (bound : List BoundPrefix) (prefix : List ℕ) → encode_utf8_all (chars prefix) ≡ prefix → AreLinked bound → place_of prefix bound ≡ None → nearest (map binding_view bound) (chars prefix) ≡ None
 found_nowhere [] prefix utf8 linked none = refl
 found_nowhere (b ∷ outer) prefix utf8 linked none = by (found_nowhere outer prefix utf8 linked.2) (bytes_eq b.prefix.now prefix) refl
   where
-    by : (byte_of prefix outer ≡ None → nearest (map binding_view outer) (chars prefix) ≡ None) → (t : Bool) → bytes_eq b.prefix.now prefix ≡ t → nearest (map binding_view (b ∷ outer)) (chars prefix) ≡ None
-    by further true e = absurd (true≢false (ap is_some (sym (ap (λ t. cond t (Some (length outer)) (byte_of prefix outer)) e) ∙ none)))
+    by : (place_of prefix outer ≡ None → nearest (map binding_view outer) (chars prefix) ≡ None) → (t : Bool) → bytes_eq b.prefix.now prefix ≡ t → nearest (map binding_view (b ∷ outer)) (chars prefix) ≡ None
+    by further true e = absurd (true≢false (ap is_some (sym (ap (λ t. cond t (Some (length outer)) (place_of prefix outer)) e) ∙ none)))
     by further false e = by_first (binding_view b) (map binding_view outer) (chars prefix) false (sym (equal_by_chars b.prefix.now prefix linked.0 utf8) ∙ e)
-        ∙ further (sym (ap (λ t. cond t (Some (length outer)) (byte_of prefix outer)) e) ∙ none)
+        ∙ further (sym (ap (λ t. cond t (Some (length outer)) (place_of prefix outer)) e) ∙ none)
 
 -- ---- look-ups
 
@@ -114,8 +114,8 @@ index_more places later items kept more bound place grown same here utf8 shadowe
     let place_is : place ≡ length (reverse items) = here ∙ ap length same ∙ sym (length-reverse items) in (
       λ prefix. updates prefix
           ∙ ap (λ o. cond (bytes_eq bound.prefix.now prefix) (Some place) o) (index.0 prefix)
-          ∙ ap (λ n. cond (bytes_eq bound.prefix.now prefix) (Some n) (byte_of prefix (reverse items))) place_is
-          ∙ ap (byte_of prefix) (sym back),
+          ∙ ap (λ n. cond (bytes_eq bound.prefix.now prefix) (Some n) (place_of prefix (reverse items))) place_is
+          ∙ ap (place_of prefix) (sym back),
       subst AreLinked (sym back) (utf8, shadowed ∙ index.0 bound.prefix.now, index.1),
     )
 
@@ -126,8 +126,8 @@ module _ (places : BTreeMap (Bor (List ℕ)) ℕ) (items fewer : List BoundPrefi
   -- the nearest binding is of a prefix that has a place
   pub is_placed : IsSome (place_in places bound.prefix.now)
   is_placed =
-      ap is_some (index.0 bound.prefix.now ∙ ap (byte_of bound.prefix.now) back
-      ∙ ap (λ t. cond t (Some (length (reverse fewer))) (byte_of bound.prefix.now (reverse fewer))) ((bytes_eq-Decides bound.prefix.now bound.prefix.now).1 refl))
+      ap is_some (index.0 bound.prefix.now ∙ ap (place_of bound.prefix.now) back
+      ∙ ap (λ t. cond t (Some (length (reverse fewer))) (place_of bound.prefix.now (reverse fewer))) ((bytes_eq-Decides bound.prefix.now bound.prefix.now).1 refl))
 
   -- without it the prefix has the place that it keeps
   pub index_less : (later : BTreeMap (Bor (List ℕ)) ℕ) → ((prefix : List ℕ) → place_in later prefix ≡ cond (bytes_eq bound.prefix.now prefix) bound.shadowed (place_in places prefix)) → IsIndexed later fewer
@@ -135,9 +135,9 @@ module _ (places : BTreeMap (Bor (List ℕ)) ℕ) (items fewer : List BoundPrefi
       let linked : AreLinked (bound ∷ reverse fewer) = subst AreLinked back index.1 in
       (λ prefix. updates prefix ∙ by prefix linked.1 (bytes_eq bound.prefix.now prefix) refl, linked.2)
     where
-      by : (prefix : List ℕ) → bound.shadowed ≡ byte_of bound.prefix.now (reverse fewer) → (t : Bool) → bytes_eq bound.prefix.now prefix ≡ t → cond (bytes_eq bound.prefix.now prefix) bound.shadowed (place_in places prefix) ≡ byte_of prefix (reverse fewer)
-      by prefix shadowed true e = ap (λ t. cond t bound.shadowed (place_in places prefix)) e ∙ shadowed ∙ ap (λ p. byte_of p (reverse fewer)) ((bytes_eq-Decides bound.prefix.now prefix).0 e)
-      by prefix shadowed false e = ap (λ t. cond t bound.shadowed (place_in places prefix)) e ∙ index.0 prefix ∙ ap (byte_of prefix) back ∙ ap (λ t. cond t (Some (length (reverse fewer))) (byte_of prefix (reverse fewer))) e
+      by : (prefix : List ℕ) → bound.shadowed ≡ place_of bound.prefix.now (reverse fewer) → (t : Bool) → bytes_eq bound.prefix.now prefix ≡ t → cond (bytes_eq bound.prefix.now prefix) bound.shadowed (place_in places prefix) ≡ place_of prefix (reverse fewer)
+      by prefix shadowed true e = ap (λ t. cond t bound.shadowed (place_in places prefix)) e ∙ shadowed ∙ ap (λ p. place_of p (reverse fewer)) ((bytes_eq-Decides bound.prefix.now prefix).0 e)
+      by prefix shadowed false e = ap (λ t. cond t bound.shadowed (place_in places prefix)) e ∙ index.0 prefix ∙ ap (place_of prefix) back ∙ ap (λ t. cond t (Some (length (reverse fewer))) (place_of prefix (reverse fewer))) e
 
 -- ---- leaving
 

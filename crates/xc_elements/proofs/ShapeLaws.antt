@@ -6,7 +6,7 @@ use Rattle.std.proofs.lemmas.Bool.Decides.{nat_tests, Decides-and, Decides-ltb}
 use Rattle.std.proofs.lemmas.List.{reverse-append}
 use Rattle.xc_elements.specs.Items.{Meaning, Declaration, Start, Empty, End, Comment, Instruction, Section, Letter, Reference}
 use Rattle.xc_elements.specs.Elements.{begun, Open, open_behind, open_at, begun_inside, innermost, is_outside, is_behind_root, nodes_from, nodes_of}
-use Rattle.xc_elements.specs.Reading.{whole}
+use Rattle.xc_elements.specs.Steps.Reading.{whole}
 use Rattle.xc_elements.specs.Trees.{IsTree, parent_of, end_of, upward, ancestors}
 use Rattle.xc_elements.specs.declared.nodes.Node.{Node}
 use Rattle.xc_elements.proofs.KeptLaws.{AreUnder, open_under}

@@ -5,10 +5,7 @@ pub mod Documents
 pub mod Trees
 pub mod Namespaces
 pub mod Elements
-pub mod Doubles
-pub mod Bindings
-pub mod Kept
-pub mod Reading
 pub mod Faults
 pub mod DocumentTrees
 pub mod Codes
+pub mod Steps

@@ -3,9 +3,8 @@ use Rattle.std.specs.Prelude.{ℕ, List, [], Bool, true, false, Option, Some, No
 use Rattle.std.specs.Option.{option_map_or}
 use Rattle.std.specs.Borrow.{Bor}
 use Rattle.std.specs.Str.{chars}
-use Rattle.xc_chars.specs.Characters.{is_space, is_name_char}
 use Rattle.xc_elements.specs.Fronts.{Turn, More, Last}
-use Rattle.xc_elements.specs.Items.{Name, Pair, Meaning, Declaration, Start, Empty, End, Comment, Instruction, Section, Letter, Reference, is_inside, value_until, tag_rest}
+use Rattle.xc_elements.specs.Items.{Name, Pair, Meaning, Declaration, Start, Empty, End, Comment, Instruction, Section, Letter, Reference, value_until, tag_rest}
 use Rattle.xc_elements.specs.declared.attributes.WrittenAttribute.{WrittenAttribute}
 use Rattle.xc_elements.specs.declared.attributes.WrittenValue.{WrittenValue}
 use Rattle.xc_elements.specs.declared.items.Item.{Item}
@@ -13,8 +12,6 @@ use Rattle.xc_elements.specs.declared.items.Item.TheVariants as items
 use Rattle.xc_elements.specs.declared.names.QualifiedName.{QualifiedName}
 use Rattle.xc_elements.specs.declared.tags.TagPart.{TagPart}
 use Rattle.xc_elements.specs.declared.tags.TagPart.TheVariants as parts
-use Rattle.xc_elements.specs.declared.texts.Class.{Class}
-use Rattle.xc_elements.specs.declared.texts.Class.TheVariants as classes
 
 -- the characters of a lent text
 abbrev pub lent : Bor (List ℕ) → List ℕ
@@ -23,16 +20,6 @@ lent text = chars text.now
 -- a value and the text that follows it
 abbrev pub at_front : {A B : Type 0} → (A → B) → A × Bor (List ℕ) → B × List ℕ
 at_front view x = (view x.0, lent x.1)
-
--- the text that follows what has no value
-abbrev pub behind : Bor (List ℕ) → Unit {0} × List ℕ
-behind text = (tt, lent text)
-
--- the characters of a class
-abbrev pub is_in : Class → ℕ → Bool
-is_in classes.Space = is_space
-is_in classes.Name = is_name_char
-is_in (classes.Between mark) = is_inside mark
 
 abbrev pub name_view : QualifiedName → Name
 name_view name = record { prefix = lent name.prefix; local = lent name.local }
@@ -50,11 +37,6 @@ IsReadable value = IsSome (value_until value.mark (lent value.text))
 
 abbrev pub attribute_view : WrittenAttribute → Pair
 attribute_view attribute = record { name = name_view attribute.name; value = value_view attribute.value }
-
--- a character of a value, or its end
-abbrev pub value_turn_view : Option ℕ → Turn ℕ Unit
-value_turn_view None = Last tt
-value_turn_view (Some c) = More c
 
 -- the attributes at the front of a text, of which the tag's name has been read
 abbrev pub attributes_at : List ℕ → List Pair
@@ -80,11 +62,6 @@ IsReadableItem items.Instruction = Unit {0}
 IsReadableItem (items.Section text) = Unit {0}
 IsReadableItem (items.Letter c) = Unit {0}
 IsReadableItem (items.Reference c) = Unit {0}
-
--- a part of a declaration, or its end
-abbrev pub part_turn_view : Bool → Turn Unit Unit
-part_turn_view true = Last tt
-part_turn_view false = More tt
 
 abbrev pub item_view : Item → Meaning
 item_view items.Declaration = Declaration

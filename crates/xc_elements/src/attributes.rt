@@ -3,7 +3,8 @@ ghost use Rattle.std.specs.Prelude.{◌≡◌, IfOk, IfSome, encode_utf8_all, op
 ghost use Rattle.std.specs.Str.{chars};
 ghost use Rattle.xc_elements.specs.Fronts.{sequence, ending};
 ghost use Rattle.xc_elements.specs.Items.{equals, quote, line_end, value_turn, attribute};
-ghost use Rattle.xc_elements.specs.Views.{at_front, behind, value_turn_view, value_view, attribute_view, IsReadable};
+ghost use Rattle.xc_elements.specs.Views.{at_front, value_view, attribute_view, IsReadable};
+ghost use Rattle.xc_elements.specs.Steps.Views.{behind, value_turn_view};
 
 use crate::names::{QualifiedName, qualified_name};
 use crate::references::reference;

@@ -3,7 +3,8 @@ ghost use Rattle.std.specs.Prelude.{◌≡◌, IfSome, option_map};
 ghost use Rattle.std.specs.Str.{chars};
 ghost use Rattle.xc_elements.specs.Fronts.{sequence, ending};
 ghost use Rattle.xc_elements.specs.Items.{is_known_encoding, may_declare, part, part_turn, declaration};
-ghost use Rattle.xc_elements.specs.Views.{at_front, behind, part_turn_view, item_view, IsReadableItem};
+ghost use Rattle.xc_elements.specs.Views.{at_front, item_view, IsReadableItem};
+ghost use Rattle.xc_elements.specs.Steps.Views.{behind, part_turn_view};
 
 use crate::attributes::{equals, quote};
 use crate::items::Item;

@@ -1,6 +1,6 @@
 // Attributes of which two have one expanded name.
 ghost use Rattle.std.specs.Prelude.{◌≡◌, IfOk, map};
-ghost use Rattle.xc_elements.specs.Doubles.{name_parts};
+ghost use Rattle.xc_elements.specs.Steps.Doubles.{name_parts};
 ghost use Rattle.xc_elements.specs.Namespaces.{has_double};
 ghost use Rattle.xc_lists.specs.Doubles.{lent_texts};
 

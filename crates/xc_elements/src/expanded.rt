@@ -5,7 +5,7 @@ ghost use Rattle.std.specs.Str.{chars};
 ghost use Rattle.xc_elements.specs.Items.{tag_rest, is_nil};
 ghost use Rattle.xc_elements.specs.Views.{lent, name_view, attribute_view, attributes_at, IsReadable};
 ghost use Rattle.xc_elements.specs.Namespaces.{given, binding_of, element_space, attribute_space, attribute_local, expand, lacks_space, tag_lacks_space, has_double};
-ghost use Rattle.xc_elements.specs.Reading.{tag_view, new_node, IsRefusedTag};
+ghost use Rattle.xc_elements.specs.Steps.Reading.{tag_view, new_node, IsRefusedTag};
 
 use crate::attributes::WrittenAttribute;
 use crate::doubles::has_double;

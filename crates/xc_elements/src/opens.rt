@@ -2,7 +2,7 @@
 ghost use Rattle.std.specs.Prelude.{◌≡◌, ◌∷◌, [], false, IfOk, MatchOption, length, encode_utf8_all, IsTrue};
 ghost use Rattle.std.specs.Str.{chars};
 ghost use Rattle.xc_elements.specs.Elements.{line_character, section_text};
-ghost use Rattle.xc_elements.specs.Kept.{kept, with_text, none_kept, innermost_kept};
+ghost use Rattle.xc_elements.specs.Steps.Kept.{kept, with_text, none_kept, innermost_kept};
 
 use crate::names::QualifiedName;
 use crate::texts::next_char;
@@ -28,7 +28,7 @@ pub(crate) struct Opens<'a> {
 
 impl<'a> Model for Opens<'a> {
     ghost use Rattle.std.specs.Prelude.{List, map, reverse};
-    ghost use Rattle.xc_elements.specs.Kept.{Kept, kept};
+    ghost use Rattle.xc_elements.specs.Steps.Kept.{Kept, kept};
 
     ghost Value = { List Kept };
 

@@ -1,9 +1,9 @@
 // The reader of a document's items, with what is open.
 ghost use Rattle.std.specs.Prelude.{◌≡◌, ◌==◌, ◌||◌, not, ◌<◌, ◌+◌, ◌^◌, ◌++◌, ◌∷◌, [], IfOk, IfErr, IsSome, List, length};
 ghost use Rattle.xc_elements.specs.Items.{Meaning, End, Letter, Reference, Section, tag_rest};
-ghost use Rattle.xc_elements.specs.Kept.{AreBelow, none_kept};
+ghost use Rattle.xc_elements.specs.Steps.Kept.{AreBelow, none_kept};
 ghost use Rattle.xc_elements.specs.Namespaces.{declarations};
-ghost use Rattle.xc_elements.specs.Reading.{Reads, IsFine, IsRefused, IsRefusedAt, HasNode, tag_view};
+ghost use Rattle.xc_elements.specs.Steps.Reading.{Reads, IsFine, IsRefused, IsRefusedAt, HasNode, tag_view};
 ghost use Rattle.xc_elements.specs.Views.{lent, name_view, item_view, IsReadableItem};
 
 use crate::expanded::{declare, new_node};

@@ -1,6 +1,6 @@
 // Why an item is refused.
 ghost use Rattle.std.specs.Prelude.{◌≡◌};
-ghost use Rattle.xc_elements.specs.Faults.{refused_at};
+ghost use Rattle.xc_elements.specs.Steps.Refusals.{refused_at};
 
 use crate::fault::TreeFault;
 use std::alloc::{AllocError, AllocFailed};

@@ -1,7 +1,7 @@
 // The declarations of namespaces that are in scope.
 ghost use Rattle.std.specs.Prelude.{◌≡◌, ◌≤◌, ◌-◌, ◌∷◌, [], ℕ, List, IfOk, IsSome, cond, length, drop, option_map, option_and_then};
 ghost use Rattle.std.specs.Str.{bytes_eq, chars};
-ghost use Rattle.xc_elements.specs.Bindings.{place_in};
+ghost use Rattle.xc_elements.specs.Steps.Bindings.{place_in};
 ghost use Rattle.xc_elements.specs.Namespaces.{Binding, declares_prefix, declares_default, declared_prefix, nearest, space_under, element_space, attribute_space};
 ghost use Rattle.xc_elements.specs.Trees.{not_empty};
 ghost use Rattle.xc_elements.specs.Views.{lent, name_view};
@@ -36,7 +36,7 @@ pub(crate) struct Scope<'a> {
 impl<'a> Model for Scope<'a> {
     ghost use Rattle.std.specs.Prelude.{List, map, reverse};
     ghost use Rattle.xc_elements.specs.Namespaces.{Binding};
-    ghost use Rattle.xc_elements.specs.Bindings.{binding_view, IsIndexed};
+    ghost use Rattle.xc_elements.specs.Steps.Bindings.{binding_view, IsIndexed};
 
     ghost Value = { List Binding };
 

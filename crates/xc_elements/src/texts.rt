@@ -3,7 +3,8 @@ ghost use Rattle.std.specs.Prelude.{◌≡◌, ◌<◌, ◌++◌, ℕ, List, IfS
 ghost use Rattle.std.specs.Str.{chars, bytes_eq};
 ghost use Rattle.xc_elements.specs.Fronts.{one, exactly, run, up_to};
 ghost use Rattle.xc_elements.specs.Items.{is_nil, spells, spells_in_any_case};
-ghost use Rattle.xc_elements.specs.Views.{lent, at_front, behind, is_in};
+ghost use Rattle.xc_elements.specs.Views.{lent, at_front};
+ghost use Rattle.xc_elements.specs.Steps.Views.{behind, is_in};
 
 use std::alloc::{AllocError, Global};
 use xc_chars::characters::{is_character, is_name_char, is_space};

@@ -2,9 +2,8 @@ use crate::{Expanded, NameFault, NameId, NameSet, Names, Prefixes, expand};
 use std::test::Fail;
 use xc_lists::Memory;
 
-// Equal names have one number, and a number tells its name.
 #[test]
-fn names_and_numbers(rt: HostRuntime) -> Result<(), Fail> {
+fn equal_names_have_one_number(rt: HostRuntime) {
     let alloc = rt.alloc();
     let mut names = Names::new(alloc);
     assert_eq!(rt; names.find("u", "a"), None);
@@ -23,27 +22,23 @@ fn names_and_numbers(rt: HostRuntime) -> Result<(), Fail> {
     for (space, local) in [("v", "b"), ("u", ""), ("", "u"), ("", "")] {
         assert_eq!(rt; names.find(space, local), None);
     }
-    let id = names.find("v", "a").ok_or("no number")?;
+}
+
+#[test]
+fn a_number_tells_its_name(rt: HostRuntime) -> Result<(), Fail> {
+    let alloc = rt.alloc();
+    let mut names = Names::new(alloc);
+    let id = names.number("v", "a").ok().ok_or("no memory")?;
     let name = names.name(id);
     assert!(rt; name.is("v", "a") && !name.is("u", "a") && !name.is("v", "b"));
     let same = Expanded::of(alloc, "v", "a")?;
     let other = Expanded::of(alloc, "u", "a")?;
     assert!(rt; *name == same && *name == same.clone()? && *name != other);
-    // Numbers that are put in more than once are listed once, ascending.
-    let mut set = NameSet::new(alloc);
-    assert_eq!(rt; set.listed(alloc)?.as_slice(), [].as_slice());
-    for number in [7, 3, 7, 0, 3] {
-        set.insert(NameId(number))?;
-    }
-    assert_eq!(rt;
-        set.listed(alloc)?.as_slice(),
-        [NameId(0), NameId(3), NameId(7)].as_slice()
-    );
     Ok(())
 }
 
 #[test]
-fn prefixes_name_spaces(rt: HostRuntime) -> Result<(), Fail> {
+fn prefixes_name_spaces(rt: HostRuntime) {
     let alloc = rt.alloc();
     let mut prefixes = Prefixes::new(alloc);
     assert_eq!(rt; prefixes.get("cur"), None);
@@ -73,5 +68,20 @@ fn prefixes_name_spaces(rt: HostRuntime) -> Result<(), Fail> {
         assert_eq!(rt; expand(&mut names, &prefixes, text), number);
     }
     assert_eq!(rt; NameFault::from(Memory), NameFault::Memory);
+}
+
+// Numbers that are put in more than once are listed once, ascending.
+#[test]
+fn numbers_are_listed(rt: HostRuntime) -> Result<(), Fail> {
+    let alloc = rt.alloc();
+    let mut set = NameSet::new(alloc);
+    assert_eq!(rt; set.listed(alloc)?.as_slice(), [].as_slice());
+    for number in [7, 3, 7, 0, 3] {
+        set.insert(NameId(number))?;
+    }
+    assert_eq!(rt;
+        set.listed(alloc)?.as_slice(),
+        [NameId(0), NameId(3), NameId(7)].as_slice()
+    );
     Ok(())
 }

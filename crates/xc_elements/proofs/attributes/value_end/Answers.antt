@@ -1,7 +1,7 @@
 use Rattle.std.proofs.Common.{◌∙◌, sym, ap, rules}
 use Rattle.std.specs.Str.{chars}
 use Rattle.xc_elements.specs.Items.{value_turn}
-use Rattle.xc_elements.specs.Views.{value_turn_view}
+use Rattle.xc_elements.specs.Steps.Views.{value_turn_view}
 use Rattle.xc_elements.proofs.FrontLaws.{found}
 use Rattle.xc_elements.proofs.ItemLaws.{value_turns}
 use Rattle.xc_elements.proofs.LoopLaws.{leads_none, leads_more, leads_last, leads_nowhere, more_shorter}

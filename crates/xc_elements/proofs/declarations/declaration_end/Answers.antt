@@ -1,7 +1,7 @@
 use Rattle.std.proofs.Common.{◌∙◌, sym, ap, rules}
 use Rattle.std.specs.Str.{chars}
 use Rattle.xc_elements.specs.Items.{part_turn}
-use Rattle.xc_elements.specs.Views.{part_turn_view}
+use Rattle.xc_elements.specs.Steps.Views.{part_turn_view}
 use Rattle.xc_elements.proofs.FrontLaws.{found}
 use Rattle.xc_elements.proofs.SequenceLaws.{turns_from_ends}
 use Rattle.xc_elements.proofs.ItemLaws.{part_turn_ends}

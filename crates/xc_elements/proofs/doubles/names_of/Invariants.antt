@@ -1,5 +1,5 @@
 use Rattle.std.proofs.Common.{◌≡◌, ◌++◌, map, drop}
-use Rattle.xc_elements.specs.Doubles.{name_parts}
+use Rattle.xc_elements.specs.Steps.Doubles.{name_parts}
 use Rattle.xc_lists.specs.Doubles.{lent_texts}
 use Rattle.xc_elements.proofs.doubles.names_of.Given as goal
 

@@ -1,7 +1,7 @@
 use Rattle.std.proofs.Common.{Some, None, cond, sym, ap, ◌∙◌}
 use Rattle.std.proofs.lemmas.Map.Text.{btree_map_updates_str}
 use Rattle.std.specs.Str.{bytes_eq}
-use Rattle.xc_elements.specs.Bindings.{place_in}
+use Rattle.xc_elements.specs.Steps.Bindings.{place_in}
 use Rattle.xc_elements.proofs.scope.give_back.Goals as goal
 
 pub returns-in-Some-get_mut : goal.returns-in-Some-get_mut

@@ -1,7 +1,7 @@
 use Rattle.std.proofs.Common.{rules}
 use Rattle.std.specs.Str.{chars}
 use Rattle.xc_elements.specs.Fronts.{run}
-use Rattle.xc_elements.specs.Views.{is_in}
+use Rattle.xc_elements.specs.Steps.Views.{is_in}
 use Rattle.xc_elements.proofs.WordLaws.{text_of_one, nothing_of_one}
 use Rattle.xc_elements.proofs.ReadLaws.{passed_more, passed_all, passed_to_none, run_on, run_ends, run_none}
 use Rattle.xc_elements.proofs.texts.run.Goals as goal

@@ -3,7 +3,7 @@ use denote.Text.{Utf8}
 use denote.Shadow.{shadow}
 use Rattle.std.specs.Str.{chars}
 use Rattle.xc_elements.specs.Fronts.{run}
-use Rattle.xc_elements.specs.Views.{is_in}
+use Rattle.xc_elements.specs.Steps.Views.{is_in}
 use Rattle.xc_elements.proofs.ReadLaws.{Passed}
 use Rattle.xc_elements.proofs.texts.run.Given as goal
 

@@ -2,7 +2,8 @@ use Rattle.std.proofs.Common.{◌∙◌, ℕ, List, [], ◌∷◌, ◌++◌, sym
 use Rattle.std.specs.Prelude.{encode_utf8_all, string_bytes}
 use Rattle.std.specs.Str.{chars}
 use Rattle.xc_elements.specs.Items.{value_turn}
-use Rattle.xc_elements.specs.Views.{lent, value_turn_view}
+use Rattle.xc_elements.specs.Views.{lent}
+use Rattle.xc_elements.specs.Steps.Views.{value_turn_view}
 use Rattle.xc_elements.proofs.FrontLaws.{found}
 use Rattle.xc_elements.proofs.ItemLaws.{value_turns}
 use Rattle.xc_elements.proofs.LoopLaws.{more_shorter}

@@ -1,7 +1,7 @@
 use Rattle.std.proofs.Common.{◌-◌, ◌++◌, ◌∷◌, [], ◌∙◌, sym, ap, arith}
 use Rattle.std.proofs.lemmas.List.{append-nil}
 use Rattle.std.specs.Prelude.{encode_utf8, encode_utf8_all, string_bytes}
-use Rattle.xc_elements.specs.Kept.{with_text}
+use Rattle.xc_elements.specs.Steps.Kept.{with_text}
 use Rattle.xc_elements.proofs.OpenLaws.{last_with}
 use Rattle.xc_elements.proofs.opens.Opens.add.Goals as goal
 

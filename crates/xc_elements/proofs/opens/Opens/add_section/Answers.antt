@@ -2,7 +2,7 @@ use Rattle.std.proofs.Common.{sym, ap, ◌∙◌, rules}
 use Rattle.std.specs.Prelude.{false, encode_utf8_all}
 use Rattle.std.specs.Str.{chars}
 use Rattle.xc_elements.specs.Elements.{section_text}
-use Rattle.xc_elements.specs.Kept.{with_text}
+use Rattle.xc_elements.specs.Steps.Kept.{with_text}
 use Rattle.xc_elements.proofs.WordLaws.{text_of_one, nothing_of_one}
 use Rattle.xc_elements.proofs.OpenLaws.{section_more, with_nothing}
 use Rattle.xc_elements.proofs.opens.Opens.add_section.Goals as goal

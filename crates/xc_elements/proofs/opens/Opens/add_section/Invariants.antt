@@ -4,7 +4,7 @@ use denote.Text.{Utf8}
 use denote.Shadow.{shadow}
 use Rattle.std.specs.Str.{chars}
 use Rattle.xc_elements.specs.Elements.{section_text}
-use Rattle.xc_elements.specs.Kept.{with_text}
+use Rattle.xc_elements.specs.Steps.Kept.{with_text}
 use Rattle.xc_elements.proofs.opens.Opens.add_section.Given as goal
 
 -- what is added so far, and what is left

@@ -1,6 +1,6 @@
 use Rattle.std.proofs.Common.{◌∷◌, ◌++◌, [], ◌-◌, length, drop, false, sym, subst, ap, ◌∙◌}
 use Rattle.xc_elements.specs.Views.{lent, name_view, attributes_at}
-use Rattle.xc_elements.specs.Reading.{IsKeptOf}
+use Rattle.xc_elements.specs.Steps.Reading.{IsKeptOf}
 use Rattle.xc_elements.specs.Items.{Empty}
 use Rattle.xc_elements.proofs.KeptLaws.{kept_empty}
 use Rattle.xc_elements.proofs.RefusalLaws.{handed_on, fine_tag, fine_empty, refused_tag, refused_empty}

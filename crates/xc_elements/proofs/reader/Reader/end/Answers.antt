@@ -1,6 +1,6 @@
 use Rattle.std.proofs.Common.{◌<◌, ◌∙◌, ap, length, subst}
-use Rattle.xc_elements.specs.Kept.{kept, AreBelow}
-use Rattle.xc_elements.specs.Reading.{ended}
+use Rattle.xc_elements.specs.Steps.Kept.{kept, AreBelow}
+use Rattle.xc_elements.specs.Steps.Reading.{ended}
 use Rattle.xc_elements.specs.Views.{name_view}
 use Rattle.xc_elements.proofs.CompletedLaws.{ended_there}
 use Rattle.xc_elements.proofs.KeptLaws.{kept_end}

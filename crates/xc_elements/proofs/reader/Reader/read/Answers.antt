@@ -1,8 +1,8 @@
 use Rattle.std.proofs.Common.{◌≡◌, ◌⊎◌, ◌∷◌, List, Bool, false, inl, inr, refl, sym, subst}
 use Rattle.xc_elements.specs.Items.{Meaning, Declaration, Comment, Instruction}
-use Rattle.xc_elements.specs.Kept.{Kept}
+use Rattle.xc_elements.specs.Steps.Kept.{Kept}
 use Rattle.xc_elements.specs.Namespaces.{Binding}
-use Rattle.xc_elements.specs.Reading.{IsKeptOf}
+use Rattle.xc_elements.specs.Steps.Reading.{IsKeptOf}
 use Rattle.xc_elements.specs.Views.{item_view}
 use Rattle.xc_elements.specs.declared.items.Item.{Item}
 use Rattle.xc_elements.specs.declared.items.Item.TheVariants as items

@@ -1,6 +1,6 @@
 use Rattle.std.proofs.Common.{◌≡◌, ℕ, List, cond, rules}
 use Rattle.std.specs.Str.{bytes_eq}
-use Rattle.xc_elements.specs.Bindings.{place_in}
+use Rattle.xc_elements.specs.Steps.Bindings.{place_in}
 use Rattle.xc_elements.proofs.ScopeLaws.{is_placed, index_less}
 use Rattle.xc_elements.proofs.scope.Scope.leave_nearest.Goals as goal
 

@@ -1,7 +1,7 @@
 -- What the reader of a document keeps, and what it stands for.
 use Rattle.std.specs.Prelude.{◌≡◌, ℕ, zero, suc, ◌+◌, ◌&&◌, nat_lt, nat_le, Bool, true, false, List, [], ◌∷◌, ◌++◌, length, map, Option, unwrap_or, encode_utf8_all}
 use Rattle.xc_elements.specs.Items.{Meaning}
-use Rattle.xc_elements.specs.Kept.{Kept, none_kept, innermost_kept}
+use Rattle.xc_elements.specs.Steps.Kept.{Kept, none_kept, innermost_kept}
 use Rattle.xc_elements.specs.Views.{lent, name_view, attributes_at}
 use Rattle.xc_elements.specs.Namespaces.{Binding, Tag, tag_of, declarations, element_space, expand, tag_lacks_space, has_double}
 use Rattle.xc_elements.specs.Elements.{begun, Open, open_at, begun_inside, is_return, text_inside, nodes_from, nodes_of, is_unbalanced, is_too_deep, has_no_space, has_same_attribute}

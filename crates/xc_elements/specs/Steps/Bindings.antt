@@ -13,14 +13,14 @@ abbrev pub binding_view : BoundPrefix → Binding
 binding_view b = record { prefix = lent b.prefix; space = b.space }
 
 -- of bindings, the nearest first: how many are outside the nearest of a prefix, which is its place from the other end
-abbrev pub byte_of : List ℕ → List BoundPrefix → Option ℕ
-byte_of prefix [] = None
-byte_of prefix (b ∷ outer) = if bytes_eq b.prefix.now prefix then Some (length outer) else byte_of prefix outer
+abbrev pub place_of : List ℕ → List BoundPrefix → Option ℕ
+place_of prefix [] = None
+place_of prefix (b ∷ outer) = if bytes_eq b.prefix.now prefix then Some (length outer) else place_of prefix outer
 
 -- each binding is of a text, and keeps the place of the one that it shadows
 abbrev pub AreLinked : List BoundPrefix → Type 0
 AreLinked [] = Unit {0}
-AreLinked (b ∷ outer) = (encode_utf8_all (lent b.prefix) ≡ b.prefix.now) × (b.shadowed ≡ byte_of b.prefix.now outer) × AreLinked outer
+AreLinked (b ∷ outer) = (encode_utf8_all (lent b.prefix) ≡ b.prefix.now) × (b.shadowed ≡ place_of b.prefix.now outer) × AreLinked outer
 
 -- the place that the map has for a prefix
 abbrev pub place_in : BTreeMap (Bor (List ℕ)) ℕ → List ℕ → Option ℕ
@@ -28,4 +28,4 @@ place_in places prefix = get_by (λ key. slice_cmp nat_cmp prefix key.now) place
 
 -- the map has the place of each prefix's nearest binding, and of no other prefix, for bindings with the nearest last
 abbrev pub IsIndexed : BTreeMap (Bor (List ℕ)) ℕ → List BoundPrefix → Type 0
-IsIndexed places bound = ((prefix : List ℕ) → place_in places prefix ≡ byte_of prefix (reverse bound)) × AreLinked (reverse bound)
+IsIndexed places bound = ((prefix : List ℕ) → place_in places prefix ≡ place_of prefix (reverse bound)) × AreLinked (reverse bound)

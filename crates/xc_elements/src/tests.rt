@@ -1,6 +1,5 @@
 use super::*;
 use std::alloc::Global;
-use std::process::Abort;
 use std::test::Fail;
 
 #[test]
@@ -107,38 +106,32 @@ fn parent_of(tree: &Tree, node: u32) -> Option<u32> {
     tree.parent_of(node)
 }
 
-fn look_up(rt: &impl Abort, tree: &Tree) {
-    assert_eq!(rt; tree.count(), 3);
-    assert_eq!(rt; parent_of(tree, 2), Some(1));
-    for (node, space, local, value, inside) in [
-        (0, "", "x", Some(" 1 "), Some("1")),
-        (0, "v", "x", None, None),
-        (1, "v", "x", Some("2"), Some("2")),
-        (1, "", "x", None, None),
-    ] {
-        assert_eq!(rt; attribute(tree, node, space, local), value);
-        assert_eq!(rt; trimmed(tree, node, space, local), inside);
-    }
-    for (node, prefix, space) in [
-        (0, "", Some("u")),
-        (0, "p", Some("v")),
-        (0, "q", None),
-        (1, "", None),
-        (1, "p", Some("v")),
-        (2, "", None),
-        (2, "p", Some("w")),
-        (2, "xml", Some(XML_SPACE)),
-        (2, "xmlns", None),
-    ] {
-        assert_eq!(rt; space_of(tree, node, prefix), space, "{node} {prefix}");
-    }
-}
-
 #[test]
 fn trees(rt: HostRuntime) {
     let document = "<a xmlns='u' xmlns:p='v' x=' 1 '><b p:x='2' xmlns=''><c xmlns:p='w'/></b></a>";
     match read(rt.alloc(), document) {
-        Ok(tree) => look_up(&rt, &tree),
+        Ok(tree) => {
+            assert_eq!(rt; tree.count(), 3);
+            assert_eq!(rt; parent_of(&tree, 2), Some(1));
+            assert_eq!(rt; attribute(&tree, 0, "", "x"), Some(" 1 "));
+            assert_eq!(rt; trimmed(&tree, 0, "", "x"), Some("1"));
+            assert_eq!(rt; attribute(&tree, 0, "v", "x"), None);
+            assert_eq!(rt; attribute(&tree, 1, "v", "x"), Some("2"));
+            assert_eq!(rt; attribute(&tree, 1, "", "x"), None);
+            for (node, prefix, space) in [
+                (0, "", Some("u")),
+                (0, "p", Some("v")),
+                (0, "q", None),
+                (1, "", None),
+                (1, "p", Some("v")),
+                (2, "", None),
+                (2, "p", Some("w")),
+                (2, "xml", Some(XML_SPACE)),
+                (2, "xmlns", None),
+            ] {
+                assert_eq!(rt; space_of(&tree, node, prefix), space, "{node} {prefix}");
+            }
+        }
         Err(_) => assert!(rt; false),
     }
     match read(rt.alloc(), "<a>") {

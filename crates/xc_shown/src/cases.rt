@@ -6,7 +6,7 @@
 use std::alloc::{AllocError, Global};
 
 /// A part of a file of cases.
-#[derive(Debug, Drop)]
+#[derive(Drop)]
 pub struct Part {
     pub words: String,
     pub text: String,

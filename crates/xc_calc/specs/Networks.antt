@@ -1,8 +1,9 @@
 -- The networks of effective arcs, by role: XBRL 2.1, section 3.5.3.9.7.3.
-use Rattle.std.specs.Prelude.{◌≡◌, ℕ, Bool, List, map, filter}
+use Rattle.std.specs.Prelude.{◌≡◌, ℕ, Bool, List, [], map, filter, slice_get}
 use Rattle.std.specs.Cmp.Lexicographic.{slice_cmp}
 use Rattle.std.specs.List.{list_any}
 use Rattle.std.specs.List.Sorted.{IsStrictlySortedBy}
+use Rattle.std.specs.Option.{option_map_or}
 use Rattle.std.specs.Ordering.{nat_cmp}
 use Rattle.std.specs.Str.{bytes_eq}
 use Rattle.xc_calc.specs.Effective.{effective_arcs}
@@ -27,3 +28,7 @@ pub record AreNetworks (arcs : List ListedArc) (networks : List Network) : Type 
   pub ascending : IsStrictlySortedBy (slice_cmp nat_cmp) (map (λ n. n.role) networks)
   pub arcs_are : map (λ n. n.arcs) networks ≡ map (λ n. arcs_of (effective_arcs arcs) n.role) networks
   pub roles : (role : List ℕ) → list_any (bytes_eq role) (map (λ n. n.role) networks) ≡ some_role (effective_arcs arcs) role
+
+-- the role of the network at this place, empty where there is none
+abbrev pub role_of : List Network → ℕ → List ℕ
+role_of networks at = option_map_or (λ network. network.role) (slice_get networks at) []

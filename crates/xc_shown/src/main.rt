@@ -3,6 +3,10 @@
 #![tactic(auto)]
 
 mod cases;
+mod linkbases;
+mod reports;
+mod schemas;
+mod taxonomies;
 mod trees;
 
 use cases::Part;
@@ -21,9 +25,11 @@ fn main(rt: HostRuntime) -> io::Result<()> {
 
 // What the readers of a subject make of its cases.
 fn show(alloc: Global, subject: &str, parts: &[Part]) -> Result<String, AllocError> {
-    if subject == "trees" {
-        trees::show(alloc, parts)
-    } else {
-        Ok(String::new(alloc))
+    match subject {
+        "trees" => trees::show(alloc, parts),
+        "schemas" => schemas::show(alloc, parts),
+        "linkbases" => linkbases::show(alloc, parts),
+        "reports" => reports::show(alloc, parts),
+        _ => Ok(String::new(alloc)),
     }
 }

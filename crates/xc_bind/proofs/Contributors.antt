@@ -4,10 +4,11 @@ use Rattle.std.proofs.lemmas.Bool.{and_from, and_parts, eqb-true}
 use Rattle.std.proofs.lemmas.Bool.Decides.{Decides-eqb}
 use Rattle.std.specs.List.{position_from, cons_option}
 use Rattle.xc_bind.specs.Bindings.{is_point_of, number_of, leads_from, arcs_from, term_with, term_of, terms_of}
-use Rattle.xc_bind.specs.Judged.{AreDistinct, IsTerm, AreTerms}
+use Rattle.xc_bind.specs.Judged.{IsTerm, AreTerms}
 use Rattle.xc_bind.specs.declared.types.Term.{Term}
 use Rattle.xc_calc.specs.declared.arc.Arc.{Arc}
 use Rattle.xc_names.specs.declared.expanded.NameId.{NameId}
+use Rattle.xc_points.specs.Kept.{AreDistinct}
 use Rattle.xc_points.specs.declared.types.Point.{Point}
 
 same_id : (a b : NameId) → a.0 == b.0 ≡ true → a ≡ b

@@ -7,11 +7,12 @@ use Rattle.xc_bind.proofs.Contributors.{term_beside, terms_beside, is_term, term
 use Rattle.xc_bind.proofs.InOrder.{all_of, ascend_both, earlier_network, earlier_total}
 use Rattle.xc_bind.proofs.Members.{Has, place_of_one, one_at, made_from, is_made, flat_from, is_in_flat, numbered, number_from}
 use Rattle.xc_bind.specs.Bindings.{terms_of, with_terms, binding_of, bindings_in, bindings_of}
-use Rattle.xc_bind.specs.Judged.{AreDistinct, IsJudged, HasBinding, HasItsTerms, AreBindings, by_place}
+use Rattle.xc_bind.specs.Judged.{IsJudged, HasBinding, HasItsTerms, AreBindings, by_place}
 use Rattle.xc_bind.specs.declared.types.Binding.{Binding}
 use Rattle.xc_bind.specs.declared.types.Term.{Term}
 use Rattle.xc_calc.specs.declared.arc.Arc.{Arc}
 use Rattle.xc_calc.specs.declared.arc.Network.{Network}
+use Rattle.xc_points.specs.Kept.{AreDistinct}
 use Rattle.xc_points.specs.declared.types.Point.{Point}
 
 -- what a binding is made of

@@ -1,5 +1,5 @@
 -- The bindings of networks name networks and points.
-use Rattle.std.proofs.Common.{◌≡◌, ℕ, suc, cond, ◌+◌, ◌<◌, ◌≤◌, List, [], ◌∷◌, length, filter_map, flat_map, Bool, true, false, Option, Some, None, IfSome, All, option_map, subst, arith}
+use Rattle.std.proofs.Common.{◌≡◌, ℕ, suc, cond, ◌+◌, ◌<◌, ◌≤◌, List, [], ◌∷◌, ◌++◌, ◌*◌, length, length-append, filter_map, flat_map, Bool, true, false, Option, Some, None, IfSome, All, option_map, subst, arith}
 use Rattle.std.proofs.lemmas.List.Elements.{All-nil, All-cons, All-append, All-weaker}
 use Rattle.std.specs.List.{cons_option, enumerate_from, position_from}
 use Rattle.xc_bind.specs.Bindings.{is_point_of, number_of, arcs_from, term_with, term_of, terms_of, with_terms, binding_of, bindings_in, bindings_of}
@@ -74,3 +74,22 @@ module _ (networks : List Network) (points : List Point) where
 
   pub all_of_networks : All (IsOfNetworks networks) (bindings_of networks points)
   all_of_networks = All-weaker IsKnown (IsOfNetworks networks) (λ b k. k.network) (bindings_of networks points) all_known
+
+-- ---- how many there are
+
+few_numbered : {X Y : Type 0} (f : ℕ × X → Option Y) (k : ℕ) (xs : List X) → length (filter_map f (enumerate_from k xs)) ≤ length xs
+few_numbered f k [] = omega arith
+few_numbered {Y = Y} f k (x ∷ xs) = by (f (k, x)) (few_numbered f (k + 1) xs)
+  where
+    by : (o : Option Y) → length (filter_map f (enumerate_from (k + 1) xs)) ≤ length xs → length (cons_option o (filter_map f (enumerate_from (k + 1) xs))) ≤ suc (length xs)
+    by None rest = omega (arith, rest)
+    by (Some y) rest = omega (arith, rest)
+
+few_flat : {X Y : Type 0} (f : ℕ × X → List Y) (most : ℕ) → ((x : ℕ × X) → length (f x) ≤ most) → (k : ℕ) (xs : List X) → length (flat_map f (enumerate_from k xs)) ≤ length xs * most
+few_flat f most each k [] = omega arith
+few_flat f most each k (x ∷ xs) =
+    let all : length (f (k, x) ++ flat_map f (enumerate_from (k + 1) xs)) ≡ length (f (k, x)) + length (flat_map f (enumerate_from (k + 1) xs)) = length-append (f (k, x)) (flat_map f (enumerate_from (k + 1) xs)) in
+    omega (arith, all, each (k, x), few_flat f most each (k + 1) xs)
+
+pub few_bindings : (networks : List Network) (points : List Point) → length (bindings_of networks points) ≤ length networks * length points
+few_bindings networks points = few_flat (bindings_in points) (length points) (λ n. few_numbered (binding_of points n.0 n.1.arcs) 0 points) 0 networks

@@ -5,8 +5,9 @@ use Rattle.std.specs.Ordering.{nat_cmp, is_eq, ordering_then}
 use Rattle.std.specs.declared.cmp.Ordering.{Ordering}
 use Rattle.std.specs.declared.cmp.Ordering.TheVariants.{Less, Equal, Greater}
 use Rattle.xc_bind.specs.Bindings.{is_point_of, number_of}
-use Rattle.xc_bind.specs.Places.{place_at, place_of}
-use Rattle.xc_bind.specs.declared.point_index.Place.{Place}
+use Rattle.xc_bind.specs.Steps.Places.{place_at}
+use Rattle.xc_points.specs.Places.{place_of}
+use Rattle.xc_points.specs.declared.types.Place.{Place}
 use Rattle.xc_lists.specs.Firsts.{first_equal}
 use Rattle.xc_lists.proofs.Positions.{find_at, position_from_congr, position_from-map}
 use Rattle.xc_names.specs.declared.expanded.NameId.{NameId}
@@ -14,7 +15,7 @@ use Rattle.xc_points.specs.declared.types.Point.{Point}
 
 -- by concept, and then by key
 abbrev pub place_cmp : Place → Place → Ordering
-place_cmp a b = ordering_then (nat_cmp a.concept b.concept) (nat_cmp a.key b.key)
+place_cmp a b = ordering_then (nat_cmp a.concept.0 b.concept.0) (nat_cmp a.key b.key)
 
 is_eq-nat_cmp : (m n : ℕ) → is_eq (nat_cmp m n) ≡ (m == n)
 is_eq-nat_cmp m n = grind (arith, nat_tests)

@@ -32,7 +32,7 @@ role_below networks ascending m n a b is_a is_b h =
     let below = Less-from_sorted (slice_cmp nat_cmp) (roles networks) m n [] ascending h within in
     (λ i. slice_cmp nat_cmp (sym first i) (sym second i)) ∙ below
 
-role_is : (networks : List Network) (points : List Point) (binding : Binding) (from : ComesFrom networks points binding) → role_of networks binding ≡ from.network.role
+role_is : (networks : List Network) (points : List Point) (binding : Binding) (from : ComesFrom networks points binding) → role_of networks binding.network ≡ from.network.role
 role_is networks points binding from = ap (λ o. option_map_or (λ (network : Network). network.role) o []) from.has_network
 
 agrees : (networks : List Network) (points : List Point) → IsStrictlySortedBy (slice_cmp nat_cmp) (roles networks) → (a b : Binding) → ComesFrom networks points a → ComesFrom networks points b → by_place a b ≡ Less → by_role networks a b ≡ Less
@@ -41,12 +41,12 @@ agrees networks points ascending a b from_a from_b e = by (nat_cmp a.network b.n
     by : (o : Ordering) → nat_cmp a.network b.network ≡ o → ordering_then o (nat_cmp a.total b.total) ≡ Less → by_role networks a b ≡ Less
     by Less is rest =
         let below = role_below networks ascending a.network b.network from_a.network from_b.network from_a.has_network from_b.has_network (ranked a.network b.network Less (sym is)) in
-        let roles_less : slice_cmp nat_cmp (role_of networks a) (role_of networks b) ≡ Less = (λ i. slice_cmp nat_cmp (role_is networks points a from_a i) (role_is networks points b from_b i)) ∙ below in
+        let roles_less : slice_cmp nat_cmp (role_of networks a.network) (role_of networks b.network) ≡ Less = (λ i. slice_cmp nat_cmp (role_is networks points a from_a i) (role_is networks points b from_b i)) ∙ below in
         ap (λ o. ordering_then o (nat_cmp a.total b.total)) roles_less
     by Equal is rest =
         let same : a.network ≡ b.network = ranked a.network b.network Equal (sym is) in
-        let one : role_of networks a ≡ role_of networks b = ap (λ n. option_map_or (λ (network : Network). network.role) (slice_get networks n) []) same in
-        let roles_equal : slice_cmp nat_cmp (role_of networks a) (role_of networks b) ≡ Equal = ap (λ r. slice_cmp nat_cmp r (role_of networks b)) one ∙ tied_itself nat_list_cmp_total (role_of networks b) in
+        let one : role_of networks a.network ≡ role_of networks b.network = ap (λ n. option_map_or (λ (network : Network). network.role) (slice_get networks n) []) same in
+        let roles_equal : slice_cmp nat_cmp (role_of networks a.network) (role_of networks b.network) ≡ Equal = ap (λ r. slice_cmp nat_cmp r (role_of networks b.network)) one ∙ tied_itself nat_list_cmp_total (role_of networks b.network) in
         ap (λ o. ordering_then o (nat_cmp a.total b.total)) roles_equal ∙ rest
     by Greater is rest = absurd (cc)
 

@@ -11,10 +11,6 @@ use Rattle.xc_calc.specs.declared.arc.Arc.{Arc}
 use Rattle.xc_calc.specs.declared.arc.Network.{Network}
 use Rattle.xc_points.specs.declared.types.Point.{Point}
 
--- no two points have one concept and one key
-abbrev pub AreDistinct : List Point → Type 0
-AreDistinct points = (j k : ℕ) (p q : Point) → slice_get points j ≡ Some p → slice_get points k ≡ Some q → p.concept ≡ q.concept → p.key ≡ q.key → j ≡ k
-
 -- the term is the one of this arc beside the total: the arc leads from the total's concept to that of the term's point, which has the total's key; and it has the arc's weight
 pub record IsTerm (points : List Point) (total : Point) (arc : Arc) (term : Term) : Type 0 where
   pub point : Point
@@ -69,10 +65,10 @@ pub record AreBindings (networks : List Network) (points : List Point) (bindings
   pub judged : (network_number total_number : ℕ) → HasBinding bindings network_number total_number ↔ IsJudged networks points network_number total_number
   pub terms : (place : ℕ) (binding : Binding) → slice_get bindings place ≡ Some binding → HasItsTerms networks points binding
 
--- the role of a binding's network
-abbrev pub role_of : List Network → Binding → List ℕ
-role_of networks binding = option_map_or (λ network. network.role) (slice_get networks binding.network) []
+-- the role of a network, by its number
+abbrev pub role_of : List Network → ℕ → List ℕ
+role_of networks number = option_map_or (λ network. network.role) (slice_get networks number) []
 
 -- by role as bytes, and then by total
 abbrev pub by_role : List Network → Binding → Binding → Ordering
-by_role networks a b = ordering_then (slice_cmp nat_cmp (role_of networks a) (role_of networks b)) (nat_cmp a.total b.total)
+by_role networks a b = ordering_then (slice_cmp nat_cmp (role_of networks a.network) (role_of networks b.network)) (nat_cmp a.total b.total)

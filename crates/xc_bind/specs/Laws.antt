@@ -4,9 +4,10 @@ use Rattle.std.specs.Cmp.Lexicographic.{slice_cmp}
 use Rattle.std.specs.List.Sorted.{IsStrictlySortedBy}
 use Rattle.std.specs.Ordering.{nat_cmp}
 use Rattle.xc_bind.specs.Bindings.{bindings_of}
-use Rattle.xc_bind.specs.Judged.{AreDistinct, AreBindings, by_role}
+use Rattle.xc_bind.specs.Judged.{AreBindings, by_role}
 use Rattle.xc_bind.specs.declared.types.Binding.{Binding}
 use Rattle.xc_calc.specs.declared.arc.Network.{Network}
+use Rattle.xc_points.specs.Kept.{AreDistinct}
 use Rattle.xc_points.specs.declared.types.Point.{Point}
 
 -- what is computed are the bindings

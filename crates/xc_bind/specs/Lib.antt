@@ -1,6 +1,6 @@
 pub mod Bindings
-pub mod Grouped
+pub mod Equation
 pub mod Judged
 pub mod Laws
 pub mod Placed
-pub mod Places
+pub mod Steps

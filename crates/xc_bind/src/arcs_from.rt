@@ -18,7 +18,7 @@ pub(crate) struct ArcsFrom<'a> {
 
 impl<'a> Model for ArcsFrom<'a> {
     ghost use Rattle.std.specs.Prelude.{List};
-    ghost use Rattle.xc_bind.specs.Grouped.{AreGrouped};
+    ghost use Rattle.xc_bind.specs.Steps.Grouped.{AreGrouped};
     ghost use Rattle.xc_calc.specs.declared.arc.Arc.{Arc};
 
     ghost Value = { List Arc };

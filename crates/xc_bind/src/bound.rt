@@ -1,5 +1,5 @@
 // The calculation bindings of a report.
-ghost use Rattle.std.specs.Prelude.{◌≡◌, ◌<◌, ◌*◌, ◌+◌, ◌++◌, ◌^◌, length, All, IfOk, OnOk};
+ghost use Rattle.std.specs.Prelude.{◌≡◌, ◌<◌, ◌≤◌, ◌*◌, ◌+◌, ◌++◌, ◌^◌, length, All, IfOk, OnOk};
 ghost use Rattle.xc_bind.specs.Bindings.{term_of, terms_of, binding_of, bindings_in, bindings_of};
 ghost use Rattle.xc_bind.specs.Placed.{IsOfNetworks, IsPlaced};
 
@@ -25,6 +25,7 @@ pub fn bindings(
 ) -> Result<Vec<Binding>, Memory>
     requires few { length networks.now * length points.now.points < 2 ^ 31 }
     ensures exactly { IfOk result (λ list. list.items ≡ bindings_of networks.now points.now.points) }
+    ensures few { IfOk result (λ list. length list.items ≤ length networks.now * length points.now.points) }
     ensures networks { IfOk result (λ list. All (IsOfNetworks networks.now) list.items) }
     ensures points { IfOk result (λ list. All (IsPlaced points.now.points) list.items) }
 {

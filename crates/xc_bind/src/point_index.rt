@@ -1,20 +1,14 @@
 // Points that are found by concept and key.
 ghost use Rattle.std.specs.Prelude.{◌≡◌, ◌<◌, ◌^◌, length, map, IfOk};
 ghost use Rattle.xc_bind.specs.Bindings.{number_of};
-ghost use Rattle.xc_bind.specs.Places.{place_at, place_of};
+ghost use Rattle.xc_bind.specs.Steps.Places.{place_at}
+use Rattle.xc_points.specs.Places.{place_of};
 
 use std::alloc::Global;
 use std::marker::Model;
 use xc_lists::{Firsts, Memory};
 use xc_names::NameId;
-use xc_points::Point;
-
-/// What tells a point from all others: its concept and its key.
-#[derive(Clone, Copy, PartialEq, Eq, PartialOrd, Ord)]
-pub(crate) struct Place {
-    concept: u64,
-    key: u64,
-}
+use xc_points::{Place, Point};
 
 /// Points, of which one is found by its concept and key without going through them.
 #[derive(Drop)]
@@ -25,7 +19,7 @@ pub(crate) struct PointIndex<'a> {
 
 impl<'a> Model for PointIndex<'a> {
     ghost use Rattle.std.specs.Prelude.{◌≡◌, List, map};
-    ghost use Rattle.xc_bind.specs.Places.{place_of};
+    ghost use Rattle.xc_points.specs.Places.{place_of};
     ghost use Rattle.xc_points.specs.declared.types.Point.{Point};
 
     ghost Value = { List Point };
@@ -67,10 +61,7 @@ impl<'a> PointIndex<'a> {
 fn place_at(concept: NameId, key: u64) -> Place
     ensures { result ≡ place_at concept key }
 {
-    Place {
-        concept: concept.0,
-        key,
-    }
+    Place { concept, key }
 }
 
 // The concept and the key of each point.
@@ -79,7 +70,7 @@ fn places_of(alloc: Global, points: &[Point]) -> Result<Vec<Place>, Memory>
 {
     let mut places = Vec::new(alloc);
     for point in points {
-        places.push(place_at(point.concept, point.key))?;
+        places.push(point.place())?;
     }
     Ok(places)
 }

@@ -37,10 +37,7 @@ narrow_value mode decimals number value unique near over fits (inr e) =
 
 -- the interval of a value is that of the fact that has it
 pub as_fact : (mode : Mode) (fact : Fact) (value : Reading) (ends : Option (Interval Ratio)) → fact.value ≡ value → AreEndsOfValue mode fact.decimals value ends → AreEndsOf mode fact ends
-as_fact mode fact value (Some i) is h =
-    let own : AreEndsOfValue mode fact.decimals fact.value (Some i) = subst (λ v. AreEndsOfValue mode fact.decimals v (Some i)) (sym is) h in
-    record { narrow = own.narrow; numbers = own.numbers; some = own.some }
-as_fact mode fact value None is h = subst (λ v. IsWideValue mode fact.decimals v) (sym is) h
+as_fact mode fact value ends is h = subst (λ v. AreEndsOfValue mode fact.decimals v ends) (sym is) h
 
 -- these are the intervals of the first facts: with those of the facts that are left, they are those of all
 abbrev pub AreFirstEnds : Mode → List Fact → ℕ → List (Option (Interval Ratio)) → Type 0

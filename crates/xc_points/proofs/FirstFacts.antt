@@ -13,29 +13,29 @@ use Rattle.xc_lists.specs.Firsts.{first_places, first_or_len}
 use Rattle.xc_lists.proofs.Positions.{position_or_len_congr, position_or_len-map}
 use Rattle.xc_points.proofs.Together.{same_together, same_refl}
 use Rattle.xc_points.specs.Gathered.{is_together}
-use Rattle.xc_points.specs.Members.{place_of, firsts_of}
-use Rattle.xc_points.specs.contracts.groups.PlaceOrd.TheImpl as order
+use Rattle.xc_points.specs.Steps.Members.{fact_place, firsts_of}
+use Rattle.xc_points.specs.contracts.types.PlaceOrd.TheImpl as order
 use Rattle.xc_report.specs.declared.reports.Fact.{Fact}
 
 equal_test : (x y : ℕ) → is_eq (nat_cmp x y) ≡ (x == y)
 equal_test x y = grind (arith, nat_tests)
 
 -- the derived order of places ties facts of one point alone
-same_place : (a b : Fact) → is_eq (order.cmp-value.it (place_of a) (place_of b)) ≡ is_together a b
+same_place : (a b : Fact) → is_eq (order.cmp-value.it (fact_place a) (fact_place b)) ≡ is_together a b
 same_place a b =
     sym (tied_then (nat_cmp a.concept.0 b.concept.0) (nat_cmp a.key b.key))
     ∙ ap (λ t. t && is_eq (nat_cmp a.key b.key)) (equal_test a.concept.0 b.concept.0)
     ∙ ap (λ t. (a.concept.0 == b.concept.0) && t) (equal_test a.key b.key)
 
-first_is : (facts : List Fact) (a : Fact) → first_or_len order.cmp-value.it (place_of a) (map place_of facts) ≡ position_or_len (is_together a) facts
+first_is : (facts : List Fact) (a : Fact) → first_or_len order.cmp-value.it (fact_place a) (map fact_place facts) ≡ position_or_len (is_together a) facts
 first_is facts a =
-    position_or_len-map place_of (λ other. is_eq (order.cmp-value.it (place_of a) other)) facts
-    ∙ position_or_len_congr (λ b. is_eq (order.cmp-value.it (place_of a) (place_of b))) (is_together a) facts (λ b. same_place a b)
+    position_or_len-map fact_place (λ other. is_eq (order.cmp-value.it (fact_place a) other)) facts
+    ∙ position_or_len_congr (λ b. is_eq (order.cmp-value.it (fact_place a) (fact_place b))) (is_together a) facts (λ b. same_place a b)
 
 -- the first places of the places of facts are the numbers of their points' first facts
-pub firsts_are : (facts : List Fact) → first_places order.cmp-value.it (map place_of facts) ≡ firsts_of facts
+pub firsts_are : (facts : List Fact) → first_places order.cmp-value.it (map fact_place facts) ≡ firsts_of facts
 firsts_are facts =
-    map-map (λ p. first_or_len order.cmp-value.it p (map place_of facts)) place_of facts
+    map-map (λ p. first_or_len order.cmp-value.it p (map fact_place facts)) fact_place facts
     ∙ ap (λ g. map g facts) (λ i a. first_is facts a i)
 
 -- the first place at which a test passes is at most any at which it does

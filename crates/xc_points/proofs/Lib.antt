@@ -1,12 +1,12 @@
 pub mod FactEnds
 pub mod FilteredRanges
 pub mod FirstFacts
-pub mod Intersected
 pub mod MembersAre
 pub mod OneRange
 pub mod Pairs
 pub mod PointGroups
 pub mod PointsKept
+pub mod RangesOfFacts
 pub mod Spreading
 pub mod TableRanges
 pub mod Together

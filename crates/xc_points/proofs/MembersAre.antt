@@ -16,7 +16,7 @@ use Rattle.xc_points.proofs.FirstFacts.{at_most, fact_at}
 use Rattle.xc_points.proofs.PointGroups.{AreNumbers}
 use Rattle.xc_points.proofs.Together.{SamePlace, together_same, same_together, same_refl, same_sym, same_trans, together_congr, same_concept}
 use Rattle.xc_points.specs.Gathered.{is_together, is_number_with, numbers_with, first_of_point, group_with, groups}
-use Rattle.xc_points.specs.Members.{firsts_of, members_from, members_by, group_at}
+use Rattle.xc_points.specs.Steps.Members.{firsts_of, members_from, members_by, group_at}
 use Rattle.xc_report.specs.declared.reports.Fact.{Fact}
 
 -- the number of the first fact of the point of this one

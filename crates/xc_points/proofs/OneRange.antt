@@ -1,5 +1,5 @@
 -- A point has one range.
-use Rattle.std.proofs.Common.{◌≡◌, List, refl, ap, inl, inr}
+use Rattle.std.proofs.Common.{◌≡◌, List, [], ◌∷◌, Option, Some, None, refl, ap, inl, inr}
 use Rattle.xc_interval.specs.Intervals.{Crosses, frac_parts, numbers_of, pairs_of, HasNoPair}
 use Rattle.xc_interval.specs.Laws.{EndsTell, HasOneInterval}
 use Rattle.xc_interval.specs.declared.ends.End.{End}
@@ -9,9 +9,9 @@ use Rattle.xc_interval.specs.declared.mode.Mode.{Mode}
 use Rattle.xc_interval.specs.declared.range.Range.TheVariants as range
 use Rattle.xc_model.specs.Fraction.{Fraction, SameNumber, IsBelow}
 use Rattle.xc_model.specs.Ratio.{Ratio}
-use Rattle.xc_points.specs.Gathered.{IsMet}
+use Rattle.xc_points.specs.Gathered.{AreEnds, AreEndsOf, IsMet}
 use Rattle.xc_points.specs.Facts.{IsEmptyPoint}
-use Rattle.xc_points.specs.Laws.{HasOneRange}
+use Rattle.xc_points.specs.Laws.{HasOneEnds, HasOneRange}
 use Rattle.xc_points.specs.declared.types.Point.{Point}
 use Rattle.xc_report.specs.declared.reports.Fact.{Fact}
 
@@ -50,3 +50,22 @@ one_range tell one mode facts point range.Empty range.Wide r s = absurd (r.0 s)
 one_range tell one mode facts point range.Wide (range.Meets j) r s = absurd (s.narrow r)
 one_range tell one mode facts point range.Wide range.Empty r s = absurd (s.0 r)
 one_range tell one mode facts point range.Wide range.Wide r s = refl
+
+-- ---- the intervals of facts
+
+one_end : (mode : Mode) (fact : Fact) (d e : Option (Interval Ratio)) → HasOneInterval → AreEndsOf mode fact d → AreEndsOf mode fact e → d ≡ e
+one_end mode fact None None one r s = refl
+one_end mode fact None (Some j) one r s = absurd (s.narrow r)
+one_end mode fact (Some i) None one r s = absurd (r.narrow s)
+one_end mode fact (Some i) (Some j) one r s = ap (λ k. Some k) (one i j r.some s.some (λ x. (
+  (λ in_i. (s.numbers x.num x.den x.positive).0 ((r.numbers x.num x.den x.positive).1 in_i)),
+  (λ in_j. (r.numbers x.num x.den x.positive).0 ((s.numbers x.num x.den x.positive).1 in_j)),
+)))
+
+pub one_ends : HasOneInterval → HasOneEnds
+one_ends one mode [] [] [] r s = refl
+one_ends one mode [] [] (e ∷ es) r s = absurd s
+one_ends one mode [] (d ∷ ds) es r s = absurd r
+one_ends one mode (fact ∷ facts) [] es r s = absurd r
+one_ends one mode (fact ∷ facts) (d ∷ ds) [] r s = absurd s
+one_ends one mode (fact ∷ facts) (d ∷ ds) (e ∷ es) r s = λ i. one_end mode fact d e one r.0 s.0 i ∷ one_ends one mode facts ds es r.1 s.1 i

@@ -9,8 +9,9 @@ use Rattle.xc_interval.specs.declared.interval.Interval.{Interval}
 use Rattle.xc_model.specs.Ratio.{Ratio}
 use Rattle.xc_names.specs.declared.expanded.NameId.{NameId}
 use Rattle.xc_points.specs.Gathered.{group_of, groups}
-use Rattle.xc_points.specs.Kept.{IsRangeOf, ends_of}
-use Rattle.xc_points.specs.Members.{group_at}
+use Rattle.xc_interval.specs.Ranges.{IsRangeOf}
+use Rattle.xc_points.specs.Kept.{ends_of}
+use Rattle.xc_points.specs.Steps.Members.{group_at}
 use Rattle.xc_points.specs.declared.types.Point.{Point}
 use Rattle.xc_report.specs.declared.reports.Fact.{Fact}
 

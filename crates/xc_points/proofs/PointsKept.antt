@@ -1,12 +1,13 @@
 -- Points whose groups are those of facts keep what points have to keep.
 use Rattle.std.proofs.Common.{◌≡◌, ◌≢◌, ℕ, suc, zero, ◌+◌, ◌<◌, ◌≤◌, ◌==◌, Bool, true, false, cond, List, [], ◌∷◌, length, map, take, get_or, Option, Some, None, slice_get, option_map, arith, refl, sym, ap, subst, ◌∙◌, unwrap_or}
-use Rattle.std.proofs.lemmas.List.{get_or-take, length-take-le}
+use Rattle.std.proofs.lemmas.List.{get_or-take, length-map, length-take-le}
+use Rattle.std.proofs.lemmas.List.FromFn.{length-range_with_len}
 use Rattle.std.proofs.lemmas.List.Folds.{Any-from_list_any}
 use Rattle.std.proofs.lemmas.List.Kept.{IsStrictlySortedBy-filter}
 use Rattle.std.proofs.lemmas.Bool.Decides.{nat_tests}
 use Rattle.std.proofs.lemmas.Option.{none-some, slice_get-map, slice_get_within, slice_get-get_or, get_or_from_slice_get}
 use Rattle.std.proofs.Math.Nat.{le_of_lt}
-use Rattle.std.specs.List.{range_with_len, list_any, AllByRecursion}
+use Rattle.std.specs.List.{cons_option, filter_map, range_with_len, list_any, AllByRecursion}
 use Rattle.std.specs.List.Sorted.{IsStrictlySortedBy}
 use Rattle.std.specs.Option.{option_and_then}
 use Rattle.std.specs.Ordering.{nat_cmp}
@@ -23,7 +24,8 @@ use Rattle.xc_points.proofs.PointGroups.{HasItsRange}
 use Rattle.xc_points.proofs.TableRanges.{ends_at, range_is}
 use Rattle.xc_points.proofs.Together.{SamePlace, together_same, same_together, same_refl, same_sym, same_trans, together_congr}
 use Rattle.xc_points.specs.Gathered.{AreEnds, ArePoints, IsRange, is_together, is_number_with, first_of_point, first_facts, group_of, group_with, groups}
-use Rattle.xc_points.specs.Kept.{AreKept, Gathered, HasFact, IsRangeOf, ends_of}
+use Rattle.xc_interval.specs.Ranges.{IsRangeOf}
+use Rattle.xc_points.specs.Kept.{AreKept, Gathered, HasFact, ends_of}
 use Rattle.xc_points.specs.declared.types.Point.{Point}
 use Rattle.xc_report.specs.declared.reports.Fact.{Fact}
 
@@ -222,3 +224,21 @@ are_points mode facts points ends gathered own_points own_ends are ends_are all 
   ends = subst (λ es. AreEnds mode facts es) (sym own_ends) ends_are;
   ranges = λ k point at. ranges_are facts points ends are (length_ends mode facts ends ends_are) mode ends_are all k point (sym (ap (λ ps. slice_get ps k) own_points) ∙ at);
 }
+
+-- there are no more points than facts
+length_found : {X Y : Type 0} (h : X → Option Y) (xs : List X) → length (filter_map h xs) ≤ length xs
+length_found {Y = Y} h [] = omega arith
+length_found {Y = Y} h (x ∷ xs) = by (h x) (length_found h xs)
+  where
+    by : (o : Option Y) → length (filter_map h xs) ≤ length xs → length (cons_option o (filter_map h xs)) ≤ suc (length xs)
+    by None rest = omega (arith, rest)
+    by (Some y) rest = omega (arith, rest)
+
+pub few_points : (mode : Mode) (facts : List Fact) (gathered : Gathered) → ArePoints mode facts gathered → length gathered.points ≤ length facts
+few_points mode facts gathered are =
+    let points : length (map group_of gathered.points) ≡ length gathered.points = length-map gathered.points group_of in
+    let all : length (map group_of gathered.points) ≡ length (map (group_with facts) (first_facts facts)) = ap (λ l. length l) are.groups_are in
+    let firsts : length (map (group_with facts) (first_facts facts)) ≡ length (first_facts facts) = length-map (first_facts facts) (group_with facts) in
+    let most : length (first_facts facts) ≤ length (range_with_len 0 (length facts)) = length_found (first_of_point facts) (range_with_len 0 (length facts)) in
+    let few : length (range_with_len 0 (length facts)) ≡ length facts = length-range_with_len 0 (length facts) in
+    omega (arith, points, all, firsts, most, few)

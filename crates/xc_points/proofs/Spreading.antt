@@ -4,7 +4,7 @@ use Rattle.std.proofs.lemmas.Bool.Decides.{nat_tests}
 use Rattle.std.proofs.lemmas.Grind.{get_or-set_at}
 use Rattle.std.proofs.lemmas.List.{drop_more, get_or-set_other, get_or_default, get_or-map, length-set, length-map}
 use Rattle.std.proofs.lemmas.List.FromFn.{fill_by_all}
-use Rattle.xc_points.specs.Members.{members_from, members_by}
+use Rattle.xc_points.specs.Steps.Members.{members_from, members_by}
 
 -- of the first i facts each stands with its first
 pub record AreSpread (firsts : List ℕ) (i : ℕ) (members : List (List ℕ)) : Type 0 where

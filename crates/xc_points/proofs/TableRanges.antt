@@ -8,7 +8,8 @@ use Rattle.xc_interval.specs.declared.range.Range.TheVariants as range
 use Rattle.xc_model.specs.Ratio.{Ratio}
 use Rattle.xc_points.specs.Facts.{AllAdmit, SomeIsWide, facts_at}
 use Rattle.xc_points.specs.Gathered.{AreEnds, AreEndsOf, IsRange}
-use Rattle.xc_points.specs.Kept.{AllKnown, LiesInAll, IsRangeOf, ends_of}
+use Rattle.xc_interval.specs.Ranges.{AllKnown, LiesInAll, IsRangeOf}
+use Rattle.xc_points.specs.Kept.{ends_of}
 use Rattle.xc_points.specs.declared.types.Point.{Point}
 use Rattle.xc_report.specs.declared.reports.Fact.{Fact}
 

@@ -9,8 +9,9 @@ use Rattle.xc_interval.specs.declared.range.Range.{Range}
 use Rattle.xc_interval.specs.declared.range.Range.TheVariants as range
 use Rattle.xc_model.specs.Ratio.{Ratio}
 use Rattle.xc_names.specs.declared.expanded.NameId.{NameId}
-use Rattle.xc_points.specs.Facts.{Admits, IsWide, PointAdmits, IsWidePoint, IsEmptyPoint}
+use Rattle.xc_points.specs.Facts.{PointAdmits, IsWidePoint, IsEmptyPoint}
 use Rattle.xc_points.specs.Kept.{Gathered}
+use Rattle.xc_points.specs.Values.{AreEndsOfValue}
 use Rattle.xc_points.specs.declared.types.Point.{Point}
 use Rattle.xc_report.specs.declared.reports.Fact.{Fact}
 
@@ -50,16 +51,9 @@ groups facts = map (group_with facts) (first_facts facts)
 abbrev pub group_of : Point → NameId × ℕ × List ℕ
 group_of point = (point.concept, point.key, point.facts)
 
--- the interval has exactly the numbers for which a fact that is not wide may stand
-pub record IsIntervalOf (mode : Mode) (fact : Fact) (i : Interval Ratio) : Type 0 where
-  pub narrow : ¬ IsWide mode fact
-  pub numbers : (p : ℤ) (q : ℕ) (positive : 0 < q) → Admits mode fact p q ↔ HasNumber (numbers_of i) (record { num = p; den = q; positive = positive })
-  pub some : ¬ HasNoPair (pairs_of frac_parts i)
-
 -- the interval of a fact, which has none exactly where it is wide
 abbrev pub AreEndsOf : Mode → Fact → Option (Interval Ratio) → Type 0
-AreEndsOf mode fact (Some i) = IsIntervalOf mode fact i
-AreEndsOf mode fact None = IsWide mode fact
+AreEndsOf mode fact ends = AreEndsOfValue mode fact.decimals fact.value ends
 
 -- the intervals of facts, one by one
 abbrev pub AreEnds : Mode → List Fact → List (Option (Interval Ratio)) → Type 0

@@ -2,6 +2,6 @@ pub mod Facts
 pub mod Gathered
 pub mod Kept
 pub mod Laws
-pub mod Members
-pub mod Met
+pub mod Places
+pub mod Steps
 pub mod Values

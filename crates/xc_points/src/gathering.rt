@@ -1,8 +1,9 @@
 // The data points of a report's facts (Calculations 1.1: facts of one concept with equal dimensions).
-ghost use Rattle.std.specs.Prelude.{◌≡◌, ◌++◌, ◌<◌, ◌^◌, All, IfOk, IfSome, length, map, option_map, option_to_list};
+ghost use Rattle.std.specs.Prelude.{◌≡◌, ◌++◌, ◌<◌, ◌≤◌, ◌^◌, All, IfOk, IfSome, length, map, option_map, option_to_list};
 ghost use Rattle.xc_points.specs.Gathered.{ArePoints, group_of, groups};
-ghost use Rattle.xc_points.specs.Kept.{IsRangeOf, ends_of};
-ghost use Rattle.xc_points.specs.Members.{group_at};
+ghost use Rattle.xc_interval.specs.Ranges.{IsRangeOf};
+ghost use Rattle.xc_points.specs.Kept.{ends_of};
+ghost use Rattle.xc_points.specs.Steps.Members.{group_at};
 
 use crate::groups::{Members, members_of};
 use crate::intervals::intervals_of;
@@ -23,6 +24,7 @@ use xc_report::{Fact, Report};
 pub fn points(alloc: Global, report: &Report, mode: Mode) -> Result<Points, Memory>
     requires { length report.now.facts < 2 ^ 31 }
     ensures points { IfOk result (λ r. ArePoints mode report.now.facts r) }
+    ensures few { IfOk result (λ r. length r.points ≤ length report.now.facts) }
 {
     let facts = report.facts.as_slice();
     let ends = intervals_of(alloc, facts, mode)?;

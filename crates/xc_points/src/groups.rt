@@ -1,19 +1,12 @@
 // Which facts belong to one point.
 ghost use Rattle.std.specs.Prelude.{◌≡◌, ◌++◌, ◌∷◌, [], ◌<◌, ◌^◌, All, IfOk, length, map};
-ghost use Rattle.xc_points.specs.Members.{place_of, firsts_of, members_by};
+ghost use Rattle.xc_points.specs.Steps.Members.{fact_place, firsts_of, members_by};
 
+use crate::types::Place;
 use std::alloc::Global;
 use std::marker::Model;
 use xc_lists::{Firsts, Items, Memory};
-use xc_names::NameId;
 use xc_report::Fact;
-
-/// The concept and the key of a fact. Facts with the same ones are of one point.
-#[derive(Clone, Copy, Debug, PartialEq, Eq, PartialOrd, Ord)]
-pub struct Place {
-    pub concept: NameId,
-    pub key: u64,
-}
 
 /// The numbers of facts that belong together.
 #[derive(Debug, Drop)]
@@ -74,7 +67,7 @@ pub fn members_of(alloc: Global, facts: &[Fact]) -> Result<Vec<Members>, Memory>
 
 // The place of each fact.
 fn places_of(alloc: Global, facts: &[Fact]) -> Result<Vec<Place>, Memory>
-    ensures { IfOk result (λ places. places.items ≡ map place_of facts.now) }
+    ensures { IfOk result (λ places. places.items ≡ map fact_place facts.now) }
 {
     let mut places = Vec::new(alloc);
     for fact in facts {

@@ -1,6 +1,6 @@
 //! What follows from the definitions for all points. The functions do nothing: code calls one where its proof needs
 //! the clauses.
-ghost use Rattle.xc_points.specs.Laws.{HasPoint, HasOwnFacts, AreDistinct, HasOneRange};
+ghost use Rattle.xc_points.specs.Laws.{HasPoint, HasOwnFacts, HasDistinct, HasOneRange, HasOneEnds};
 
 use xc_interval::laws::{ends_tell, one_interval};
 
@@ -9,7 +9,7 @@ use xc_interval::laws::{ends_tell, one_interval};
 pub fn points_are_pairs()
     ensures point { HasPoint }
     ensures facts { HasOwnFacts }
-    ensures distinct { AreDistinct }
+    ensures distinct { HasDistinct }
 {}
 
 /// The range of a point is decided by the mode and the facts.
@@ -17,5 +17,13 @@ pub fn one_range()
     ensures { HasOneRange }
 {
     ends_tell();
+    one_interval();
+}
+
+/// The intervals of facts are decided by the mode and the facts. What they give a point is decided by them:
+/// `xc_interval::laws::one_range`.
+pub fn one_list_of_ends()
+    ensures { HasOneEnds }
+{
     one_interval();
 }

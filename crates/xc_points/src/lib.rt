@@ -11,4 +11,4 @@ mod tests;
 pub mod types;
 
 pub use gathering::points;
-pub use types::{Point, Points};
+pub use types::{Place, Point, Points};

@@ -1,12 +1,20 @@
 // Data points with their facts.
 ghost use Rattle.std.specs.Prelude.{◌≡◌};
 ghost use Rattle.xc_points.specs.Kept.{AreKept};
+ghost use Rattle.xc_points.specs.Places.{place_of};
 
 use std::marker::Model;
 use xc_frac::Frac;
 use xc_interval::{Interval, Range};
 use xc_lists::Items;
 use xc_names::NameId;
+
+/// What tells a data point from all others: its concept and its key.
+#[derive(Clone, Copy, Debug, PartialEq, Eq, PartialOrd, Ord)]
+pub struct Place {
+    pub concept: NameId,
+    pub key: u64,
+}
 
 /// A data point: a concept with a key, for which at least one fact is reported.
 #[derive(Debug, Drop)]
@@ -19,6 +27,18 @@ pub struct Point {
     pub facts: Items<u32>,
     /// What all its facts allow.
     pub range: Range,
+}
+
+impl Point {
+    /// Its concept and its key.
+    pub fn place(&self) -> Place
+        ensures { result ≡ place_of self.now }
+    {
+        Place {
+            concept: self.concept,
+            key: self.key,
+        }
+    }
 }
 
 /// The data points of a report in the order of their first facts, with the interval of each fact, which is

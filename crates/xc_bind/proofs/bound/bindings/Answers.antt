@@ -1,6 +1,6 @@
-use Rattle.std.proofs.Common.{◌≡◌, All, arith, subst, sym}
+use Rattle.std.proofs.Common.{◌≡◌, ◌≤◌, ◌*◌, All, length, arith, subst, sym}
 use Rattle.std.proofs.lemmas.Grind.{common_steps}
-use Rattle.xc_bind.proofs.Placing.{all_placed, all_of_networks}
+use Rattle.xc_bind.proofs.Placing.{all_placed, all_of_networks, few_bindings}
 use Rattle.xc_bind.specs.Bindings.{bindings_of}
 use Rattle.xc_bind.specs.Placed.{IsOfNetworks, IsPlaced}
 use Rattle.xc_bind.proofs.bound.bindings.Goals as goal
@@ -13,3 +13,6 @@ returns-clause-networks c = subst (λ bs. All (IsOfNetworks c.args.networks.now)
 
 pub returns-clause-points : goal.returns-clause-points
 returns-clause-points c = subst (λ bs. All (IsPlaced c.args.points.now.points) bs) (sym (exact c)) (all_placed c.args.networks.now c.args.points.now.points)
+
+pub returns-clause-few : goal.returns-clause-few
+returns-clause-few c = subst (λ bs. length bs ≤ length c.args.networks.now * length c.args.points.now.points) (sym (exact c)) (few_bindings c.args.networks.now c.args.points.now.points)

@@ -1,5 +1,5 @@
 use Rattle.std.proofs.Common.{◌≡◌, ◌++◌, drop, map}
-use Rattle.xc_bind.specs.Places.{place_of}
+use Rattle.xc_points.specs.Places.{place_of}
 use Rattle.xc_bind.proofs.point_index.places_of.Given as goal
 
 -- the places so far, and then those of the points that are left

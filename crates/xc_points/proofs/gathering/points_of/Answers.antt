@@ -3,7 +3,7 @@ use Rattle.std.specs.Vec.Iter.{into_iter_items}
 use Rattle.xc_points.proofs.PointGroups.{ArePointsSoFar, HasItsRange, next_numbers, one_more_point}
 use Rattle.std.proofs.lemmas.List.Elements.{All-nil}
 use Rattle.xc_points.proofs.MembersAre.{groups_are, members_are_numbers}
-use Rattle.xc_points.specs.Members.{members_by, firsts_of}
+use Rattle.xc_points.specs.Steps.Members.{members_by, firsts_of}
 use Rattle.xc_points.proofs.gathering.points_of.Goals as goal
 
 pub loop-members-init : goal.loop-members-init

@@ -1,8 +1,8 @@
 use Rattle.std.proofs.Common.{◌≡◌, ◌<◌, length, ap, sym, subst, ◌∙◌, IfOk}
 use Rattle.std.specs.Prelude.{All}
 use Rattle.xc_lists.specs.Firsts.{first_places}
-use Rattle.xc_points.specs.contracts.groups.PlaceOrd.TheImpl as order
-use Rattle.xc_points.specs.Members.{firsts_of, members_by}
+use Rattle.xc_points.specs.contracts.types.PlaceOrd.TheImpl as order
+use Rattle.xc_points.specs.Steps.Members.{firsts_of, members_by}
 use Rattle.xc_points.proofs.FirstFacts.{firsts_are, firsts_inside}
 use Rattle.xc_points.proofs.groups.members_of.Goals as goal
 

@@ -1,5 +1,5 @@
 use Rattle.std.proofs.Common.{take}
-use Rattle.xc_bind.specs.Grouped.{AreGrouped}
+use Rattle.xc_bind.specs.Steps.Grouped.{AreGrouped}
 use Rattle.xc_bind.proofs.arcs_from.ArcsFrom.of.Given as goal
 
 -- the lists have the arcs so far

@@ -1,6 +1,6 @@
 use Rattle.std.proofs.Common.{rules, ◌≡◌, ◌<◌, Some, length, sym, ap, subst, ◌∙◌}
 use Rattle.xc_bind.specs.Bindings.{number_of}
-use Rattle.xc_bind.specs.Places.{place_at}
+use Rattle.xc_bind.specs.Steps.Places.{place_at}
 use Rattle.xc_bind.proofs.PointPlaces.{place_cmp, number_is, number_below}
 use Rattle.xc_lists.specs.Firsts.{first_equal}
 use Rattle.xc_bind.proofs.point_index.PointIndex.number_of.Goals as goal

@@ -1,14 +1,14 @@
--- Which facts belong together, by the place of the first fact of each one's point.
+-- Steps of the code: which facts belong together, by the place of the first fact of each one's point.
 use Rattle.std.specs.Prelude.{ℕ, ◌+◌, ◌==◌, List, [], ◌∷◌, map, length, Option, None, option_map, slice_get, if◌then◌else◌}
 use Rattle.std.specs.List.{position_or_len, range_with_len}
 use Rattle.xc_names.specs.declared.expanded.NameId.{NameId}
 use Rattle.xc_points.specs.Gathered.{is_together}
-use Rattle.xc_points.specs.declared.groups.Place.{Place}
+use Rattle.xc_points.specs.declared.types.Place.{Place}
 use Rattle.xc_report.specs.declared.reports.Fact.{Fact}
 
 -- the concept and the key of a fact
-abbrev pub place_of : Fact → Place
-place_of fact = record { concept = fact.concept; key = fact.key }
+abbrev pub fact_place : Fact → Place
+fact_place fact = record { concept = fact.concept; key = fact.key }
 
 -- for each fact the number of the first fact of its point
 abbrev pub firsts_of : List Fact → List ℕ

@@ -1,4 +1,4 @@
--- Arcs that are kept in a list for each concept from which they lead.
+-- A step of the code: arcs that are kept in a list for each concept from which they lead.
 use Rattle.std.specs.Prelude.{◌≡◌, ◌==◌, ℕ, List, [], filter, Vec}
 use Rattle.std.specs.BTreeMap.{BTreeMap, get}
 use Rattle.std.specs.Option.{option_map_or}

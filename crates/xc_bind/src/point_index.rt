@@ -1,8 +1,8 @@
 // Points that are found by concept and key.
 ghost use Rattle.std.specs.Prelude.{◌≡◌, ◌<◌, ◌^◌, length, map, IfOk};
 ghost use Rattle.xc_bind.specs.Bindings.{number_of};
-ghost use Rattle.xc_bind.specs.Steps.Places.{place_at}
-use Rattle.xc_points.specs.Places.{place_of};
+ghost use Rattle.xc_bind.specs.Steps.Places.{place_at};
+ghost use Rattle.xc_points.specs.Places.{place_of};
 
 use std::alloc::Global;
 use std::marker::Model;

@@ -1,15 +1,15 @@
 -- What is written of a report's bindings and data points: their counts, the verdict of each binding, and the points that no value satisfies.
-use Rattle.std.specs.Prelude.{ℕ, ◌≢◌, ◌<◌, List, [], ◌++◌, length, filter, All, Bool, true, false, option_and_then, slice_get, codes, decimal}
+use Rattle.std.specs.Prelude.{ℕ, ◌≢◌, ◌<◌, List, [], ◌++◌, length, filter, All, option_and_then, slice_get, codes, decimal}
 use Rattle.std.specs.List.{flat_map, zip, enumerate_from}
 use Rattle.std.specs.Option.{option_map_or}
+use Rattle.xc_bind.specs.Judged.{role_of}
 use Rattle.xc_bind.specs.declared.types.Binding.{Binding}
 use Rattle.xc_bind.specs.declared.types.Verdict.{Verdict}
 use Rattle.xc_bind.specs.declared.types.Verdict.TheVariants.{Consistent, Inconsistent, Unjudged, TooWide}
 use Rattle.xc_calc.specs.declared.arc.Network.{Network}
+use Rattle.xc_interval.specs.Ranges.{is_empty_range}
 use Rattle.xc_interval.specs.declared.mode.Mode.{Mode}
 use Rattle.xc_interval.specs.declared.mode.Mode.TheVariants.{Rounding, Truncation}
-use Rattle.xc_interval.specs.declared.range.Range.{Range}
-use Rattle.xc_interval.specs.declared.range.Range.TheVariants as range
 use Rattle.xc_lines.specs.Lines.{printed}
 use Rattle.xc_points.specs.declared.types.Point.{Point}
 use Rattle.xc_report.specs.declared.reports.Fact.{Fact}
@@ -34,10 +34,6 @@ HaveFacts points = All (λ point. point.facts ≢ []) points
 
 -- ---- what is looked up
 
--- the role of a network, by its number
-abbrev pub role_of : List Network → ℕ → List ℕ
-role_of networks n = option_map_or (λ network. network.role) (slice_get networks n) []
-
 -- the id of a point's first fact
 abbrev pub first_id : List Fact → Point → List ℕ
 first_id facts point = option_map_or (λ fact. fact.id) (option_and_then (λ f. slice_get facts f) (slice_get point.facts 0)) []
@@ -45,12 +41,6 @@ first_id facts point = option_map_or (λ fact. fact.id) (option_and_then (λ f. 
 -- the id of the first fact of a point, by its number
 abbrev pub first_id_at : List Fact → List Point → ℕ → List ℕ
 first_id_at facts points k = option_map_or (λ point. first_id facts point) (slice_get points k) []
-
--- no value is allowed by all facts of the point
-abbrev pub is_empty_range : Range → Bool
-is_empty_range range.Empty = true
-is_empty_range range.Wide = false
-is_empty_range (range.Meets i) = false
 
 -- ---- the lines
 

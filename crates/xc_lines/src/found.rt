@@ -1,7 +1,9 @@
 // What is found of a report: a line with the counts, one for each binding, one for each empty point.
 ghost use Rattle.std.specs.Prelude.{◌≡◌, ◌≢◌, ◌<◌, ◌++◌, [], IfOk, OnOk, All, length, string_bytes, if◌then◌else◌};
 ghost use Rattle.std.specs.List.{zip, enumerate_from};
-ghost use Rattle.xc_lines.specs.Findings.{CarryFacts, NameTotals, NameNetworks, HaveFacts, role_of, first_id, first_id_at, is_empty_range, counts_line, mode_code, verdict_code, verdict_word, binding_line, binding_lines, empty_point_line, empty_point_lines, findings};
+ghost use Rattle.xc_bind.specs.Judged.{role_of};
+ghost use Rattle.xc_interval.specs.Ranges.{is_empty_range};
+ghost use Rattle.xc_lines.specs.Findings.{CarryFacts, NameTotals, NameNetworks, HaveFacts, first_id, first_id_at, counts_line, mode_code, verdict_code, verdict_word, binding_line, binding_lines, empty_point_line, empty_point_lines, findings};
 
 use crate::texts::{push_number, push_text};
 use std::alloc::{AllocError, Global};
@@ -170,7 +172,7 @@ fn push_empty_points(out: &mut String, facts: &[Fact], points: &[Point]) -> Resu
 fn push_if_empty(out: &mut String, number: usize, id: &str, range: &Range) -> Result<(), AllocError>
     ensures { OnOk result (string_bytes out.new ≡ string_bytes out.old ++ (if is_empty_range range.now then empty_point_line number id.now else [])) }
 {
-    if is_empty(range) {
+    if range.is_empty() {
         push_empty_point(out, number, id)
     } else {
         Ok(())
@@ -186,13 +188,4 @@ fn push_empty_point(out: &mut String, number: usize, fact: &str) -> Result<(), A
     push_text(out, fact)?;
     out.push_str(" xc:emptyDataPoint\n")?;
     Ok(())
-}
-
-fn is_empty(range: &Range) -> bool
-    ensures { result ≡ is_empty_range range.now }
-{
-    match range {
-        Range::Empty => true,
-        Range::Meets(_) | Range::Wide => false,
-    }
 }

@@ -176,8 +176,9 @@ fn lines_of_findings(rt: HostRuntime) -> Result<(), Fail> {
     Ok(())
 }
 
+// Texts as they are printed, and the lines that are written in place of findings.
 #[test]
-fn printed_texts(rt: HostRuntime) -> Result<(), Fail> {
+fn lines_of_texts(rt: HostRuntime) -> Result<(), Fail> {
     let alloc = rt.alloc();
     for (text, word) in [
         ("", "%"),
@@ -189,12 +190,6 @@ fn printed_texts(rt: HostRuntime) -> Result<(), Fail> {
     ] {
         assert_eq!(rt; printed(alloc, text)?.as_str(), word);
     }
-    Ok(())
-}
-
-#[test]
-fn lines_in_place_of_findings(rt: HostRuntime) -> Result<(), Fail> {
-    let alloc = rt.alloc();
     assert_eq!(rt;
         usage_line(),
         "usage: xcalc sum MODE REPORT TOTAL TERM... | check [--old-arcs] MODE REPORT DOC... | verify [--old-arcs] MODE CERTIFICATE REPORT DOC... | sample N\n"

@@ -10,7 +10,9 @@ use Rattle.xc_bind.specs.declared.types.Binding.{Binding}
 use Rattle.xc_bind.specs.declared.types.Verdict.{Verdict}
 use Rattle.xc_calc.specs.declared.arc.Network.{Network}
 use Rattle.xc_interval.specs.declared.mode.Mode.{Mode}
-use Rattle.xc_lines.specs.Findings.{role_of, first_id, first_id_at, is_empty_range, counts_line, binding_line, empty_point_line, line_of, binding_lines, empty_point_lines, findings}
+use Rattle.xc_bind.specs.Judged.{role_of}
+use Rattle.xc_interval.specs.Ranges.{is_empty_range}
+use Rattle.xc_lines.specs.Findings.{first_id, first_id_at, counts_line, binding_line, empty_point_line, line_of, binding_lines, empty_point_lines, findings}
 use Rattle.xc_points.specs.Laws.{HasOneRange}
 use Rattle.xc_points.specs.declared.types.Point.{Point}
 use Rattle.xc_report.specs.declared.reports.Fact.{Fact}

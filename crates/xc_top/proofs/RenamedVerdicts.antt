@@ -17,7 +17,9 @@ use Rattle.xc_top.specs.Judged.{AreVerdicts}
 use Rattle.xc_verdict.specs.Laws.{HasOneVerdict}
 use Rattle.xc_verdict.specs.Ranges.{named, SomeHas, EachHas, range_if, range_at}
 use Rattle.xc_verdict.specs.Verdicts.{AdmitsAt, TermsAdmit, HasWide, HasEmpty, Agrees, CanBeJudged, IsVerdict}
-use Rattle.xc_verdict.specs.Widths.{AreOnScale, IsCommonScale, greatest, most_places, weight_size, terms_size, width, IsNarrowBinding}
+use Rattle.xc_bind.specs.Equation.{most_places}
+use Rattle.xc_interval.specs.Scales.{AreOnScale, greatest}
+use Rattle.xc_verdict.specs.Widths.{IsCommonScale, weight_size, terms_size, width, IsNarrowBinding}
 
 -- a property that gives another gives it of some of these numbers
 some_has : (P Q : ℕ → Type 0) → ((k : ℕ) → P k → Q k) → (ks : List ℕ) → SomeHas P ks → SomeHas Q ks

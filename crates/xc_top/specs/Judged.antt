@@ -7,7 +7,8 @@ use Rattle.xc_bind.specs.declared.types.Verdict.{Verdict}
 use Rattle.xc_bind.specs.declared.types.Verdict.TheVariants as verdict
 use Rattle.xc_calc.specs.declared.arc.Network.{Network}
 use Rattle.xc_interval.specs.declared.mode.Mode.{Mode}
-use Rattle.xc_lines.specs.Findings.{findings, is_empty_range}
+use Rattle.xc_interval.specs.Ranges.{is_empty_range}
+use Rattle.xc_lines.specs.Findings.{findings}
 use Rattle.xc_names.specs.Names.{KeepsNumbers}
 use Rattle.xc_names.specs.declared.expanded.Expanded.{Expanded}
 use Rattle.xc_names.specs.declared.wanted.Wanted.{Wanted}

@@ -3,7 +3,7 @@ ghost use Rattle.std.specs.Prelude.{◌≡◌, ◌||◌, ℕ, List, IfOk, All, l
 ghost use Rattle.std.specs.List.{list_any};
 ghost use Rattle.xc_bind.specs.Placed.{IsPlaced};
 ghost use Rattle.xc_interval.specs.declared.mode.Mode.{Mode};
-ghost use Rattle.xc_lines.specs.Findings.{is_empty_range};
+ghost use Rattle.xc_interval.specs.Ranges.{is_empty_range};
 ghost use Rattle.xc_points.specs.Gathered.{ArePoints};
 ghost use Rattle.xc_report.specs.declared.reports.Fact.{Fact};
 ghost use Rattle.xc_top.specs.Judged.{AreVerdicts, status_of, has_finding, is_inconsistent, is_empty_point, is_too_wide};

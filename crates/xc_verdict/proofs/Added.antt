@@ -5,6 +5,7 @@ use Rattle.xc_bind.specs.declared.types.Binding.{Binding}
 use Rattle.xc_bind.specs.declared.types.Term.{Term}
 use Rattle.xc_interval.specs.Arithmetic.{IsSumOfNumbers}
 use Rattle.xc_interval.specs.Intervals.{numbers_of, HasNumber}
+use Rattle.xc_interval.specs.Laws.{HaveScales, ScalesGrow}
 use Rattle.xc_interval.specs.declared.interval.Interval.{Interval}
 use Rattle.xc_interval.specs.declared.range.Range.{Range}
 use Rattle.xc_interval.specs.declared.range.Range.TheVariants as range
@@ -14,9 +15,11 @@ use Rattle.xc_model.proofs.Arithmetic.{sum-assoc, sum-comm, sum-zero}
 use Rattle.xc_model.proofs.Numbers.{same-refl, same-sym, same-trans, same-sum}
 use Rattle.xc_points.specs.declared.types.Point.{Point}
 use Rattle.xc_verdict.specs.Ranges.{point_of, range_at, EachHas}
-use Rattle.xc_verdict.specs.Sums.{IsSomeInterval, AllAreMet, Has, IsWeighted, IsSumWith, IsTermOf, IsSumOf, Holds, AreCounted, HasRoomFor, HasRoomTimes, IsCountedTimes}
-use Rattle.xc_verdict.specs.Widths.{AreOnScale, greatest, most_places, weight_size, terms_size, IsNarrowBinding}
-use Rattle.xc_verdict.proofs.Scales.{least_positive}
+use Rattle.xc_verdict.specs.Steps.Sums.{IsSomeInterval, AllAreMet, Has, IsWeighted, IsSumWith, IsTermOf, IsSumOf, Holds, AreCounted, HasRoomFor, HasRoomTimes, IsCountedTimes}
+use Rattle.xc_bind.specs.Equation.{most_places}
+use Rattle.xc_interval.specs.Scales.{AreOnScale, greatest}
+use Rattle.xc_verdict.specs.Widths.{weight_size, terms_size, IsNarrowBinding}
+use Rattle.xc_verdict.proofs.LeastScale.{least_positive}
 use Rattle.xc_verdict.proofs.Values.{has_same, sum_same, AreWithin, within_most, scaled_positive}
 
 -- ---- numbers
@@ -87,7 +90,7 @@ holds_range r term i it is held = subst (λ (s : Range). Holds it (IsWeighted te
 
 -- ---- the sum of the first terms
 
-module _ (points : List Point) (binding : Binding) (narrow : IsNarrowBinding points binding) where
+module _ (some : HaveScales) (grow : ScalesGrow) (points : List Point) (binding : Binding) (narrow : IsNarrowBinding points binding) where
   abbrev scale : ℕ
   scale = narrow.scale
 
@@ -98,7 +101,7 @@ module _ (points : List Point) (binding : Binding) (narrow : IsNarrowBinding poi
   unit = scale * 10 ^ places
 
   scale_positive : 0 < scale
-  scale_positive = least_positive points binding scale narrow.least
+  scale_positive = least_positive some grow points binding scale narrow.least
 
   unit_fits : unit < 2 ^ 127
   unit_fits = omega (arith, narrow.fits)
@@ -174,12 +177,12 @@ pub record Summed (points : List Point) (binding : Binding) (rest : List Term) (
   pub met : AllAreMet points (map point_of rest)
   pub some : IsSomeInterval sum
   pub gives : Gives points binding.terms rest sum
-  pub counts : (narrow : IsNarrowBinding points binding) → Counts points binding narrow rest sum
+  pub counts : (have : HaveScales) (grow : ScalesGrow) (narrow : IsNarrowBinding points binding) → Counts have grow points binding narrow rest sum
 
 module _ (points : List Point) (binding : Binding) where
   pub summed_none : (sum : Interval Ratio) → AllAreMet points (map point_of binding.terms) → IsSomeInterval sum → Holds sum (λ x. SameNumber x (whole (pos 0)))
       → ((u : ℕ) → 0 < u → AreCounted u 0 sum) → Summed points binding binding.terms sum
-  summed_none sum met some held counted = record { met = met; some = some; gives = gives_none points binding.terms sum held; counts = λ narrow. counts_none points binding narrow sum counted }
+  summed_none sum met some held counted = record { met = met; some = some; gives = gives_none points binding.terms sum held; counts = λ have grow narrow. counts_none have grow points binding narrow sum counted }
 
   pub summed_all : (sum : Interval Ratio) → Summed points binding [] sum → Holds sum (IsSumOf points binding.terms)
   summed_all sum summed = gives_all points binding.terms sum summed.gives
@@ -192,5 +195,5 @@ module _ (points : List Point) (binding : Binding) where
     met = summed.met.1;
     some = some;
     gives = gives_more points binding.terms term rest sum it more (holds_range (range_at points term.point) term i it is held) sums summed.gives;
-    counts = λ narrow. counts_more points binding narrow term rest sum i (summed.counts narrow) is it times more counted;
+    counts = λ have grow narrow. counts_more have grow points binding narrow term rest sum i (summed.counts have grow narrow) is it times more counted;
   }

@@ -24,9 +24,10 @@ use Rattle.xc_interval.specs.declared.ends.End.{End}
 use Rattle.xc_interval.specs.declared.ends.End.TheVariants.{Closed, Open}
 use Rattle.xc_interval.specs.declared.interval.Interval.{Interval}
 use Rattle.xc_interval.specs.declared.range.Range.TheVariants as range
-use Rattle.xc_verdict.specs.Sums.{IsCounted, AreCounted, HasRoomFor, HasRoomTimes, IsCountedTimes}
-use Rattle.xc_verdict.specs.Verdicts.{whole_weight}
-use Rattle.xc_verdict.specs.Widths.{IsOnScale, size_of, greatest, weight_size}
+use Rattle.xc_verdict.specs.Steps.Sums.{IsCounted, AreCounted, HasRoomFor, HasRoomTimes, IsCountedTimes}
+use Rattle.xc_bind.specs.Equation.{whole_weight}
+use Rattle.xc_interval.specs.Scales.{IsOnScale, size_of, greatest}
+use Rattle.xc_verdict.specs.Widths.{weight_size}
 use Rattle.xc_verdict.proofs.Values.{scaled_positive, term_number}
 
 -- ---- sums

@@ -12,8 +12,10 @@ use Rattle.xc_names.specs.declared.expanded.NameId.{NameId}
 use Rattle.xc_points.specs.declared.types.Point.{Point}
 use Rattle.xc_report.specs.declared.reports.Fact.{Fact}
 use Rattle.xc_report.specs.declared.reports.Reading.TheVariants as read
-use Rattle.xc_verdict.specs.Verdicts.{weighted_sum, AdmitsAt, Agrees}
-use Rattle.xc_verdict.specs.Widths.{most_places, width}
+use Rattle.xc_bind.specs.Equation.{weighted_sum}
+use Rattle.xc_verdict.specs.Verdicts.{AdmitsAt, Agrees}
+use Rattle.xc_bind.specs.Equation.{most_places}
+use Rattle.xc_verdict.specs.Widths.{width}
 
 module _ (name : NameId) (one : IsShortest (pos 1) 0) (minus : IsShortest (negsuc 0) 0) (tenth : IsShortest (pos 1) 1) (fifty : IsShortest (pos 50) 0)
     (half : IsLowest (pos 1) (pos 2)) (three_halves : IsLowest (pos 3) (pos 2)) (low : IsLowest (pos 99) (pos 2)) (high : IsLowest (pos 101) (pos 2)) where

@@ -10,7 +10,7 @@ use Rattle.xc_points.specs.Gathered.{IsRange}
 use Rattle.xc_points.specs.declared.types.Point.{Point}
 use Rattle.xc_report.specs.declared.reports.Fact.{Fact}
 use Rattle.xc_verdict.specs.Ranges.{range_if, SomeHas, EachHas}
-use Rattle.xc_verdict.specs.Sums.{IsWideRange, IsEmptyRange, IsMetRange, Has}
+use Rattle.xc_verdict.specs.Steps.Sums.{IsWideRange, IsEmptyRange, IsMetRange, Has}
 
 -- ---- of lists of numbers
 
@@ -41,19 +41,19 @@ module _ (mode : Mode) (facts : List Fact) where
   RangesAre o = (point : Point) → o ≡ Some point → IsRange mode facts point point.range
 
   wide_range : (point : Point) (r : Range) → IsRange mode facts point r → IsWidePoint mode facts point → IsWideRange r
-  wide_range point range.Wide is wide = tt
+  wide_range point range.Wide is wide = refl
   wide_range point range.Empty is wide = absurd (is.0 wide)
   wide_range point (range.Meets i) is wide = absurd (is.narrow wide)
 
   range_wide : (point : Point) (r : Range) → IsRange mode facts point r → IsWideRange r → IsWidePoint mode facts point
   range_wide point range.Wide is wide = is
-  range_wide point range.Empty is wide = absurd wide
-  range_wide point (range.Meets i) is wide = absurd wide
+  range_wide point range.Empty is wide = absurd (cc)
+  range_wide point (range.Meets i) is wide = absurd (cc)
 
   range_empty : (point : Point) (r : Range) → IsRange mode facts point r → IsEmptyRange r → IsEmptyPoint mode facts point
-  range_empty point range.Wide is empty = absurd empty
+  range_empty point range.Wide is empty = absurd (cc)
   range_empty point range.Empty is empty = is.1
-  range_empty point (range.Meets i) is empty = absurd empty
+  range_empty point (range.Meets i) is empty = absurd (cc)
 
   -- a wide point has a wide range, and the other way
   pub wide_if : (o : Option Point) → RangesAre o → IsSomeAnd o (λ point. IsWidePoint mode facts point) → IsWideRange (range_if o)

@@ -22,7 +22,7 @@ use Rattle.xc_points.specs.Gathered.{IsRange}
 use Rattle.xc_points.specs.declared.types.Point.{Point}
 use Rattle.xc_report.specs.declared.reports.Fact.{Fact}
 use Rattle.xc_verdict.specs.Ranges.{named, point_of, range_at, EachHas}
-use Rattle.xc_verdict.specs.Sums.{IsWideRange, IsEmptyRange, IsMetRange, IsSomeInterval, Has, IsShared, IsFound, AllAreMet}
+use Rattle.xc_verdict.specs.Steps.Sums.{IsWideRange, IsEmptyRange, IsMetRange, IsSomeInterval, Has, IsShared, IsFound, AllAreMet}
 use Rattle.xc_verdict.specs.Verdicts.{AdmitsAt, TermsAdmit, HasWide, HasEmpty, Agrees, CanBeJudged, IsVerdict}
 use Rattle.xc_verdict.specs.Widths.{IsNarrowBinding}
 use Rattle.xc_verdict.proofs.Facts.{some_of_some, none_of_each, is_there, wide_if, if_wide, if_empty, admits_if}
@@ -51,8 +51,8 @@ range_number tell (range.Meets i) met = some_number tell i met
 
 met_not_wide : (r : Range) → IsMetRange r → IsWideRange r → ⊥
 met_not_wide range.Wide met wide = met
-met_not_wide range.Empty met wide = wide
-met_not_wide (range.Meets i) met wide = wide
+met_not_wide range.Empty met wide = met
+met_not_wide (range.Meets i) met wide = cc
 
 -- ---- verdicts
 

@@ -10,11 +10,12 @@ use Rattle.xc_interval.specs.declared.range.Range.{Range}
 use Rattle.xc_interval.specs.declared.range.Range.TheVariants as range
 use Rattle.xc_model.specs.Fraction.{Fraction}
 use Rattle.xc_model.specs.Ratio.{Ratio}
-use Rattle.xc_points.specs.Kept.{AreKept, IsRangeOf, ends_of}
+use Rattle.xc_interval.specs.Ranges.{IsRangeOf}
+use Rattle.xc_points.specs.Kept.{AreKept, ends_of}
 use Rattle.xc_points.specs.declared.types.Point.{Point}
 use Rattle.xc_bind.specs.Placed.{IsInside}
 use Rattle.xc_verdict.specs.Ranges.{named, point_of, range_if, range_at, EachHas}
-use Rattle.xc_verdict.specs.Sums.{IsKeptRange, Has, Holds, IsSumOf, IsShared}
+use Rattle.xc_verdict.specs.Steps.Sums.{IsKeptRange, Has, Holds, IsSumOf, IsShared}
 
 -- the points that a binding names are there
 terms_there : (points : List Point) (terms : List Term) → All (IsInside points) terms → EachHas (λ k. k < length points) (map point_of terms)

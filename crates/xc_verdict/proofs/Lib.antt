@@ -5,10 +5,9 @@ mod Examples
 mod Facts
 mod Found
 mod Judged
+mod LeastScale
 mod Loops
 mod Narrow
 mod OneVerdict
-mod Saturating
-mod Scales
 mod Values
 mod Weighted

@@ -6,8 +6,9 @@ use Rattle.std.proofs.lemmas.Nat.Gcd.{dvd_antisymm}
 use Rattle.xc_bind.specs.declared.types.Binding.{Binding}
 use Rattle.xc_decimal.specs.Shortest.{ten_positive}
 use Rattle.xc_points.specs.declared.types.Point.{Point}
-use Rattle.xc_verdict.specs.Saturated.{saturated}
-use Rattle.xc_verdict.specs.Widths.{most_places, width, IsLeastScale, IsNarrowBinding}
+use Rattle.xc_interval.specs.Scales.{saturated}
+use Rattle.xc_bind.specs.Equation.{most_places}
+use Rattle.xc_verdict.specs.Widths.{width, IsLeastScale, IsNarrowBinding}
 
 module _ (points : List Point) (binding : Binding) where
   -- there is one least common denominator

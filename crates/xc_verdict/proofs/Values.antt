@@ -18,9 +18,8 @@ use Rattle.xc_model.proofs.Numbers.{same-refl, same-sym, same-trans, same-sum, s
 use Rattle.xc_model.proofs.Over.{ratio, add_over}
 use Rattle.xc_points.specs.declared.types.Point.{Point}
 use Rattle.xc_verdict.specs.Ranges.{range_at}
-use Rattle.xc_verdict.specs.Sums.{Has, IsSumWith, IsTermOf, IsSumOf, IsShared}
-use Rattle.xc_verdict.specs.Verdicts.{whole_weight, weighted_sum}
-use Rattle.xc_verdict.specs.Widths.{most_places}
+use Rattle.xc_verdict.specs.Steps.Sums.{Has, IsSumWith, IsTermOf, IsSumOf, IsShared}
+use Rattle.xc_bind.specs.Equation.{most_places, whole_weight, weighted_sum, AddsUp}
 
 -- ---- the same number lies in the same intervals
 
@@ -111,7 +110,7 @@ module _ (points : List Point) where
     pub values : List ℤ
     pub total_has : Has (range_at points binding.total) (ratio total over positive)
     pub terms_have : TermsHave over positive binding.terms values
-    pub adds : pos (10 ^ most_places binding.terms) *ℤ total ≡ weighted_sum (most_places binding.terms) binding.terms values
+    pub adds : AddsUp binding total values
 
   unscaled : (n t : ℤ) (q ten : ℕ) (p : 0 < q) (pp : 0 < q * ten) → pos ten *ℤ t ≡ n → SameNumber (ratio n (q * ten) pp) (ratio t q p)
   unscaled n t q ten p pp h = record {

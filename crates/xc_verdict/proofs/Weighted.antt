@@ -18,8 +18,9 @@ use Rattle.xc_interval.specs.declared.ends.End.{End}
 use Rattle.xc_interval.specs.declared.ends.End.TheVariants.{Closed}
 use Rattle.xc_interval.specs.declared.interval.Interval.{Interval}
 use Rattle.xc_interval.specs.declared.range.Range.TheVariants as range
-use Rattle.xc_verdict.specs.Sums.{IsSomeInterval, IsWeighted, Holds, IsCounted, AreCounted, IsCountedTimes}
-use Rattle.xc_verdict.specs.Widths.{greatest, weight_size}
+use Rattle.xc_verdict.specs.Steps.Sums.{IsSomeInterval, IsWeighted, Holds, IsCounted, AreCounted, IsCountedTimes}
+use Rattle.xc_interval.specs.Scales.{greatest}
+use Rattle.xc_verdict.specs.Widths.{weight_size}
 use Rattle.xc_verdict.proofs.Counted.{real_at, number_at, kept_counted, turned_counted}
 use Rattle.xc_verdict.proofs.Found.{some_number}
 use Rattle.xc_verdict.proofs.Values.{has_same, scaled_positive}

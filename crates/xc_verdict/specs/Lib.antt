@@ -1,7 +1,5 @@
 pub mod Laws
 pub mod Ranges
-pub mod Saturated
-pub mod Scales
-pub mod Sums
+pub mod Steps
 pub mod Verdicts
 pub mod Widths

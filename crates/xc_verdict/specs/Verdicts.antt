@@ -1,26 +1,16 @@
 -- The verdict of a binding, from the facts of the report alone (Calculations 1.1: the consistency of a binding calculation).
-use Rattle.std.specs.Prelude.{◌≡◌, ℕ, ℤ, pos, ◌+ℤ◌, ◌*ℤ◌, ◌-◌, ◌^◌, ◌<◌, ◌⊎◌, List, [], ◌∷◌, IsSomeAnd, slice_get}
+use Rattle.std.specs.Prelude.{ℕ, ℤ, ◌<◌, ◌⊎◌, List, [], ◌∷◌, IsSomeAnd, slice_get}
 use Rattle.xc_bind.specs.declared.types.Binding.{Binding}
 use Rattle.xc_bind.specs.declared.types.Term.{Term}
 use Rattle.xc_bind.specs.declared.types.Verdict.{Verdict}
 use Rattle.xc_bind.specs.declared.types.Verdict.TheVariants.{Consistent, Inconsistent, Unjudged, TooWide}
-use Rattle.xc_decimal.specs.Shortest.{Shortest}
 use Rattle.xc_interval.specs.declared.mode.Mode.{Mode}
 use Rattle.xc_points.specs.Facts.{PointAdmits, IsWidePoint, IsEmptyPoint}
 use Rattle.xc_points.specs.declared.types.Point.{Point}
 use Rattle.xc_report.specs.declared.reports.Fact.{Fact}
 use Rattle.xc_verdict.specs.Ranges.{named, SomeHas}
-use Rattle.xc_verdict.specs.Widths.{most_places, IsNarrowBinding}
-
--- a weight times 10 ^ places, which is a whole number where the weight has no more places
-abbrev pub whole_weight : ℕ → Shortest → ℤ
-whole_weight places weight = weight.digits *ℤ pos (10 ^ (places - weight.places))
-
--- the sum of the terms' numbers, each times its weight times 10 ^ places
-abbrev pub weighted_sum : ℕ → List Term → List ℤ → ℤ
-weighted_sum places [] ps = pos 0
-weighted_sum places (term ∷ terms) [] = pos 0
-weighted_sum places (term ∷ terms) (p ∷ ps) = whole_weight places term.weight *ℤ p +ℤ weighted_sum places terms ps
+use Rattle.xc_bind.specs.Equation.{AddsUp}
+use Rattle.xc_verdict.specs.Widths.{IsNarrowBinding}
 
 module _ (mode : Mode) (facts : List Fact) (points : List Point) where
   -- all facts of point number k may stand for p/q
@@ -51,7 +41,7 @@ module _ (mode : Mode) (facts : List Fact) (points : List Point) where
     pub values : List ℤ
     pub total_admits : AdmitsAt binding.total total over
     pub terms_admit : TermsAdmit binding.terms values over
-    pub adds : pos (10 ^ most_places binding.terms) *ℤ total ≡ weighted_sum (most_places binding.terms) binding.terms values
+    pub adds : AddsUp binding total values
 
   -- no fact is wide, no point is empty, and the binding is narrow
   pub record CanBeJudged (binding : Binding) : Type 0 where

@@ -1,25 +1,13 @@
 -- When a binding is narrow: its numbers, over one denominator, leave room for its sums (the widths are this project's own).
-use Rattle.std.specs.Prelude.{ℕ, ◌+◌, ◌-◌, ◌*◌, ◌/◌, ◌^◌, ◌≤◌, max, unsigned_abs, List, [], ◌∷◌}
+use Rattle.std.specs.Prelude.{ℕ, ◌+◌, ◌-◌, ◌*◌, ◌^◌, ◌≤◌, unsigned_abs, List, [], ◌∷◌}
 use Prim.Native.Nat.{◌∣◌}
+use Rattle.xc_bind.specs.Equation.{most_places}
 use Rattle.xc_bind.specs.declared.types.Binding.{Binding}
 use Rattle.xc_bind.specs.declared.types.Term.{Term}
 use Rattle.xc_decimal.specs.Shortest.{Shortest}
-use Rattle.xc_interval.specs.Ends.{value_of}
-use Rattle.xc_interval.specs.declared.range.Range.{Range}
-use Rattle.xc_interval.specs.declared.range.Range.TheVariants as range
-use Rattle.xc_model.specs.Ratio.{Ratio}
+use Rattle.xc_interval.specs.Scales.{AreOnScale, greatest}
 use Rattle.xc_points.specs.declared.types.Point.{Point}
 use Rattle.xc_verdict.specs.Ranges.{named, range_at, EachHas}
-
--- the denominator of a number divides d
-abbrev pub IsOnScale : ℕ → Ratio → Type 0
-IsOnScale d x = unsigned_abs x.den ∣ d
-
--- the denominators of both ends of a range divide d
-abbrev pub AreOnScale : ℕ → Range → Type 0
-AreOnScale d (range.Meets i) = IsOnScale d (value_of i.low) × IsOnScale d (value_of i.high)
-AreOnScale d range.Empty = Unit {0}
-AreOnScale d range.Wide = Unit {0}
 
 -- d is a common multiple of the denominators of all ends of the points that the binding names
 abbrev pub IsCommonScale : List Point → Binding → ℕ → Type 0
@@ -29,21 +17,6 @@ IsCommonScale points binding d = EachHas (λ k. AreOnScale d (range_at points k)
 pub record IsLeastScale (points : List Point) (binding : Binding) (d : ℕ) : Type 0 where
   pub common : IsCommonScale points binding d
   pub least : (m : ℕ) → IsCommonScale points binding m → d ∣ m
-
--- the magnitude of a number whose denominator divides d, times d
-abbrev pub size_of : ℕ → Ratio → ℕ
-size_of d x = unsigned_abs x.num * (d / unsigned_abs x.den)
-
--- the greater magnitude of the two ends of a range, times d
-abbrev pub greatest : ℕ → Range → ℕ
-greatest d (range.Meets i) = max (size_of d (value_of i.low)) (size_of d (value_of i.high))
-greatest d range.Empty = 0
-greatest d range.Wide = 0
-
--- the greatest number of places of a weight
-abbrev pub most_places : List Term → ℕ
-most_places [] = 0
-most_places (term ∷ terms) = max term.weight.places (most_places terms)
 
 -- the magnitude of a weight, times 10 ^ places
 abbrev pub weight_size : ℕ → Shortest → ℕ

@@ -5,7 +5,7 @@ ghost use Rattle.xc_points.specs.Gathered.{ArePoints};
 ghost use Rattle.xc_report.specs.declared.reports.Fact.{Fact};
 ghost use Rattle.xc_bind.specs.Placed.{IsInside};
 ghost use Rattle.xc_verdict.specs.Ranges.{named, range_at};
-ghost use Rattle.xc_verdict.specs.Sums.{IsKeptRange, AllAreMet, IsShared, IsFound};
+ghost use Rattle.xc_verdict.specs.Steps.Sums.{IsKeptRange, AllAreMet, IsShared, IsFound};
 ghost use Rattle.xc_verdict.specs.Verdicts.{IsVerdict};
 ghost use Rattle.xc_verdict.specs.Widths.{IsNarrowBinding};
 

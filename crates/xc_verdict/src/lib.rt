@@ -3,7 +3,6 @@
 
 mod judging;
 pub mod laws;
-mod magnitudes;
 mod ranges;
 mod scale;
 mod sums;

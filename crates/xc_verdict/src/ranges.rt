@@ -3,7 +3,7 @@ ghost use Rattle.std.specs.Prelude.{◌≡◌, ◌<◌, ◌↔◌, ℕ, length, 
 ghost use Rattle.xc_interval.specs.declared.range.Range.TheVariants as range;
 ghost use Rattle.xc_bind.specs.Placed.{IsInside};
 ghost use Rattle.xc_verdict.specs.Ranges.{named, point_of, range_at};
-ghost use Rattle.xc_verdict.specs.Sums.{IsWideRange, IsEmptyRange, IsMetRange, IsKeptRange, IsSomeInterval, SomeIsWide, SomeIsEmpty, AllAreMet, IsFound};
+ghost use Rattle.xc_verdict.specs.Steps.Sums.{IsMetRange, IsKeptRange, IsSomeInterval, SomeIsWide, SomeIsEmpty, AllAreMet, IsFound};
 
 use xc_bind::{Binding, Term, Verdict};
 use xc_frac::Frac;
@@ -42,35 +42,13 @@ pub fn hindrance(binding: &Binding, points: &[Point]) -> Option<Verdict>
 {
     let terms = binding.terms.as_slice();
     let total = range_at(points, binding.total);
-    if is_wide(&total) || some_is_wide(terms, points) {
+    if total.is_wide() || some_is_wide(terms, points) {
         return Some(Verdict::TooWide);
     }
-    if is_empty(&total) || some_is_empty(terms, points) {
+    if total.is_empty() || some_is_empty(terms, points) {
         return Some(Verdict::Unjudged);
     }
     None
-}
-
-// Whether a range is wide.
-fn is_wide(range: &Range) -> bool
-    ensures { IsTrue result ↔ IsWideRange range.now }
-{
-    match *range {
-        Range::Wide => true,
-        Range::Empty => false,
-        Range::Meets(_) => false,
-    }
-}
-
-// Whether a range is empty.
-fn is_empty(range: &Range) -> bool
-    ensures { IsTrue result ↔ IsEmptyRange range.now }
-{
-    match *range {
-        Range::Wide => false,
-        Range::Empty => true,
-        Range::Meets(_) => false,
-    }
 }
 
 // Whether a term's point is wide.
@@ -79,7 +57,7 @@ fn some_is_wide(terms: &[Term], points: &[Point]) -> bool
     ensures { IsTrue result ↔ SomeIsWide points.now (map point_of terms.now) }
 {
     for term in terms {
-        if is_wide(&range_at(points, term.point)) {
+        if range_at(points, term.point).is_wide() {
             return true;
         }
     }
@@ -92,7 +70,7 @@ fn some_is_empty(terms: &[Term], points: &[Point]) -> bool
     ensures { IsTrue result ↔ SomeIsEmpty points.now (map point_of terms.now) }
 {
     for term in terms {
-        if is_empty(&range_at(points, term.point)) {
+        if range_at(points, term.point).is_empty() {
             return true;
         }
     }

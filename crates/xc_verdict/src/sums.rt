@@ -5,7 +5,7 @@ ghost use Rattle.xc_interval.specs.Arithmetic.{IsSumOfNumbers};
 ghost use Rattle.xc_interval.specs.Intervals.{numbers_of, HasNumber};
 ghost use Rattle.xc_bind.specs.Placed.{IsInside};
 ghost use Rattle.xc_verdict.specs.Ranges.{point_of};
-ghost use Rattle.xc_verdict.specs.Sums.{IsSomeInterval, AllAreMet, IsWeighted, IsSumOf, Holds, AreCounted, HasRoomFor, HasRoomTimes, IsCountedTimes};
+ghost use Rattle.xc_verdict.specs.Steps.Sums.{IsSomeInterval, AllAreMet, IsWeighted, IsSumOf, Holds, AreCounted, HasRoomFor, HasRoomTimes, IsCountedTimes};
 ghost use Rattle.xc_verdict.specs.Widths.{IsNarrowBinding};
 
 use crate::ranges::interval_at;
@@ -22,6 +22,7 @@ pub fn sum_of(binding: &Binding, points: &[Point]) -> Interval<Frac>
     requires narrow { IsNarrowBinding points.now binding.now }
     ensures { Holds result (IsSumOf points.now binding.now.terms) }
 {
+    laws::scales();
     let mut sum = nothing();
     for term in binding.terms.as_slice() {
         let interval = interval_at(points, term.point);

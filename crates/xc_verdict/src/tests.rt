@@ -262,10 +262,6 @@ fn verdicts(rt: HostRuntime) -> Result<(), Fail> {
         let told = judged(&rt, rt.alloc(), mode, facts, total, terms)?;
         assert_eq!(rt; told, want, "{facts} {total} {terms}");
     }
-    Ok(())
-}
-
-#[test]
-fn a_law_can_be_called() {
     laws::one_verdict();
+    Ok(())
 }

@@ -1,16 +1,16 @@
 // Whether a binding is narrow.
-ghost use Rattle.std.specs.Prelude.{◌≡◌, ◌<◌, ◌≤◌, ◌^◌, ◌↔◌, length, All, IsTrue};
+ghost use Rattle.std.specs.Prelude.{◌≡◌, ◌<◌, ◌≤◌, ◌^◌, ◌↔◌, length, All, IsTrue, unsigned_abs};
 ghost use Rattle.xc_bind.specs.Placed.{IsInside};
-ghost use Rattle.xc_verdict.specs.Saturated.{saturated};
-ghost use Rattle.xc_verdict.specs.Widths.{size_of, greatest, most_places, weight_size, terms_size, width, IsNarrowBinding};
+ghost use Rattle.xc_interval.specs.Scales.{saturated};
+ghost use Rattle.xc_bind.specs.Equation.{most_places};
+ghost use Rattle.xc_verdict.specs.Widths.{weight_size, terms_size, width, IsNarrowBinding};
 
-use crate::magnitudes::{den_size, digits_size, num_size};
 use crate::ranges::range_at;
 use crate::scale::least_scale;
 use xc_bind::{Binding, Term};
 use xc_decimal::Decimal;
-use xc_frac::Frac;
-use xc_interval::Range;
+use xc_frac::power;
+use xc_interval::laws;
 use xc_points::Point;
 
 // The greatest width of a narrow binding.
@@ -41,11 +41,12 @@ fn width(binding: &Binding, points: &[Point], scale: u128) -> u128
     requires terms { All (IsInside points.now) binding.now.terms }
     ensures { result ≡ saturated (width points.now binding.now scale) }
 {
+    laws::saturated_sums();
     let terms = binding.terms.as_slice();
     let places = most_places(terms);
     let power = power(places);
     let one = scale.saturating_mul(power);
-    let total = power.saturating_mul(greatest(scale, &range_at(points, binding.total)));
+    let total = power.saturating_mul(range_at(points, binding.total).greatest(scale));
     one.saturating_add(total)
         .saturating_add(terms_size(terms, points, places, scale))
 }
@@ -62,24 +63,17 @@ fn most_places(terms: &[Term]) -> u32
     most
 }
 
-// 10^places.
-fn power(places: u32) -> u128
-    requires { places ≤ 37 }
-    ensures { result ≡ 10 ^ places }
-{
-    10u128.pow(places)
-}
-
 // What the terms add to the width.
 fn terms_size(terms: &[Term], points: &[Point], places: u32, scale: u128) -> u128
     requires inside { All (IsInside points.now) terms.now }
     requires places { places ≤ 37 }
     ensures { result ≡ saturated (terms_size points.now places scale terms.now) }
 {
+    laws::saturated_sums();
     let mut sum: u128 = 0;
     for term in terms {
         let range = range_at(points, term.point);
-        let size = weight_size(places, term.weight).saturating_mul(greatest(scale, &range));
+        let size = weight_size(places, term.weight).saturating_mul(range.greatest(scale));
         sum = sum.saturating_add(size);
     }
     sum
@@ -93,24 +87,9 @@ fn weight_size(places: u32, weight: Decimal) -> u128
     digits_size(weight).saturating_mul(power(places.saturating_sub(weight.places())))
 }
 
-// The greater magnitude of the two ends of a range, times a denominator.
-fn greatest(scale: u128, range: &Range) -> u128
-    ensures { result ≡ saturated (greatest scale range.now) }
+// The magnitude of the digits.
+fn digits_size(weight: Decimal) -> u128
+    ensures { result ≡ unsigned_abs weight.digits }
 {
-    match *range {
-        Range::Meets(interval) => {
-            let low = size(scale, interval.low.value());
-            let high = size(scale, interval.high.value());
-            low.max(high)
-        }
-        Range::Empty => 0,
-        Range::Wide => 0,
-    }
-}
-
-// The magnitude of a number times a denominator.
-fn size(scale: u128, number: Frac) -> u128
-    ensures { result ≡ saturated (size_of scale number) }
-{
-    num_size(number).saturating_mul(scale / den_size(number))
+    weight.digits().unsigned_abs()
 }

@@ -1,6 +1,6 @@
 use Rattle.std.proofs.Common.{ℕ, ◌<◌, length, sym, subst}
 use Rattle.xc_verdict.specs.Ranges.{range_at}
-use Rattle.xc_verdict.specs.Sums.{IsKeptRange, IsFound}
+use Rattle.xc_verdict.specs.Steps.Sums.{IsKeptRange, IsFound}
 use Rattle.xc_verdict.proofs.Found.{verdict_of}
 use Rattle.xc_verdict.proofs.Judged.{all_there, kept_at}
 use Rattle.xc_verdict.proofs.judging.verdict.Goals as goal

@@ -1,6 +1,6 @@
 use Rattle.std.proofs.Common.{◌↔◌, map, drop}
 use Rattle.xc_verdict.specs.Ranges.{point_of}
-use Rattle.xc_verdict.specs.Sums.{SomeIsEmpty}
+use Rattle.xc_verdict.specs.Steps.Sums.{SomeIsEmpty}
 use Rattle.xc_verdict.proofs.ranges.some_is_empty.Given as goal
 
 abbrev pub invariant-loop-term : goal.invariant-loop-term

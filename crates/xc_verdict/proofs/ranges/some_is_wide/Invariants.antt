@@ -1,6 +1,6 @@
 use Rattle.std.proofs.Common.{◌↔◌, map, drop}
 use Rattle.xc_verdict.specs.Ranges.{point_of}
-use Rattle.xc_verdict.specs.Sums.{SomeIsWide}
+use Rattle.xc_verdict.specs.Steps.Sums.{SomeIsWide}
 use Rattle.xc_verdict.proofs.ranges.some_is_wide.Given as goal
 
 abbrev pub invariant-loop-term : goal.invariant-loop-term

@@ -1,5 +1,5 @@
 use Rattle.std.proofs.Common.{drop}
-use Rattle.xc_verdict.proofs.Scales.{Scaled}
+use Rattle.xc_verdict.proofs.LeastScale.{Scaled}
 use Rattle.xc_verdict.proofs.scale.least_scale.Given as goal
 
 abbrev pub invariant-loop-term : goal.invariant-loop-term

@@ -16,7 +16,7 @@ weighted-requires-clause-room c =
     let term = c.term-item.result in
     let next = subst (λ ts. drop i ts ≡ term ∷ drop (i + 1) ts) c.as_slice-term-items.ensures (next_term c.as_slice-term-items.result.now i term c.loop-term-test.true c.term-item.is) in
     let so_far = subst (λ rest. Summed points binding rest c.loop-term.sum) next c.loop-term.invariant in
-    room_times points binding c.requires.narrow term (drop (i + 1) terms) c.loop-term.sum c.interval_at-interval.result (so_far.counts c.requires.narrow) c.interval_at-interval.ensures.is
+    room_times c.scales.ensures.some c.scales.ensures.grow points binding c.requires.narrow term (drop (i + 1) terms) c.loop-term.sum c.interval_at-interval.result (so_far.counts c.scales.ensures.some c.scales.ensures.grow c.requires.narrow) c.interval_at-interval.ensures.is
 
 pub plus-sum-requires-clause-room : goal.plus-sum-requires-clause-room
 plus-sum-requires-clause-room c =
@@ -27,7 +27,7 @@ plus-sum-requires-clause-room c =
     let term = c.term-item.result in
     let next = subst (λ ts. drop i ts ≡ term ∷ drop (i + 1) ts) c.as_slice-term-items.ensures (next_term c.as_slice-term-items.result.now i term c.loop-term-test.true c.term-item.is) in
     let so_far = subst (λ rest. Summed points binding rest c.loop-term.sum) next c.loop-term.invariant in
-    room_for points binding c.requires.narrow term (drop (i + 1) terms) c.loop-term.sum c.interval_at-interval.result (so_far.counts c.requires.narrow) c.interval_at-interval.ensures.is c.weighted.result c.weighted.ensures.counted
+    room_for c.scales.ensures.some c.scales.ensures.grow points binding c.requires.narrow term (drop (i + 1) terms) c.loop-term.sum c.interval_at-interval.result (so_far.counts c.scales.ensures.some c.scales.ensures.grow c.requires.narrow) c.interval_at-interval.ensures.is c.weighted.result c.weighted.ensures.counted
 
 pub loop-term-preserved : goal.loop-term-preserved
 loop-term-preserved c =

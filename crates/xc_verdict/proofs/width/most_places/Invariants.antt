@@ -1,6 +1,6 @@
 use Rattle.std.proofs.Common.{◌≡◌, ◌≤◌, drop}
 use Rattle.std.specs.Prelude.{max}
-use Rattle.xc_verdict.specs.Widths.{most_places}
+use Rattle.xc_bind.specs.Equation.{most_places}
 use Rattle.xc_verdict.proofs.width.most_places.Given as goal
 
 abbrev pub invariant-loop-term : goal.invariant-loop-term

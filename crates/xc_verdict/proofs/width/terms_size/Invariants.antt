@@ -1,5 +1,5 @@
 use Rattle.std.proofs.Common.{◌≡◌, ◌≤◌, ◌^◌, ◌+◌, ◌-◌, drop}
-use Rattle.xc_verdict.specs.Saturated.{saturated}
+use Rattle.xc_interval.specs.Scales.{saturated}
 use Rattle.xc_verdict.specs.Widths.{terms_size}
 use Rattle.xc_verdict.proofs.width.terms_size.Given as goal
 

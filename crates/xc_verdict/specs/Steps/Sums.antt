@@ -1,5 +1,5 @@
--- What the ranges of points say of a binding: the numbers that they have, of any denominator.
-use Rattle.std.specs.Prelude.{ℕ, ℤ, pos, ◌+◌, ◌*◌, ◌^◌, ◌<◌, ◌≤◌, ◌⊎◌, ◌↔◌, unsigned_abs, List, [], ◌∷◌}
+-- Steps of the code: what the ranges of points say of a binding: the numbers that they have, of any denominator.
+use Rattle.std.specs.Prelude.{ℕ, ℤ, pos, ◌+◌, ◌*◌, ◌^◌, ◌<◌, ◌≤◌, ◌⊎◌, ◌↔◌, unsigned_abs, IsTrue, List, [], ◌∷◌}
 use Rattle.xc_bind.specs.declared.types.Binding.{Binding}
 use Rattle.xc_bind.specs.declared.types.Term.{Term}
 use Rattle.xc_bind.specs.declared.types.Verdict.{Verdict}
@@ -7,6 +7,7 @@ use Rattle.xc_bind.specs.declared.types.Verdict.TheVariants.{Consistent, Inconsi
 use Rattle.xc_decimal.specs.Shortest.{Shortest, decimal_number}
 use Rattle.xc_interval.specs.Ends.{value_of}
 use Rattle.xc_interval.specs.Intervals.{frac_parts, numbers_of, pairs_of, HasNumber, HasNoPair}
+use Rattle.xc_interval.specs.Ranges.{is_empty_range, is_wide_range}
 use Rattle.xc_interval.specs.declared.ends.End.{End}
 use Rattle.xc_interval.specs.declared.interval.Interval.{Interval}
 use Rattle.xc_interval.specs.declared.range.Range.{Range}
@@ -15,19 +16,16 @@ use Rattle.xc_model.specs.Fraction.{Fraction, SameNumber, whole, sum_of, product
 use Rattle.xc_model.specs.Ratio.{Ratio, IsOver}
 use Rattle.xc_points.specs.declared.types.Point.{Point}
 use Rattle.xc_verdict.specs.Ranges.{named, range_at, SomeHas, EachHas}
-use Rattle.xc_verdict.specs.Widths.{AreOnScale, greatest, weight_size, IsNarrowBinding}
+use Rattle.xc_interval.specs.Scales.{AreOnScale, greatest}
+use Rattle.xc_verdict.specs.Widths.{weight_size, IsNarrowBinding}
 
 -- the range is wide
 abbrev pub IsWideRange : Range → Type 0
-IsWideRange range.Wide = Unit {0}
-IsWideRange range.Empty = ⊥
-IsWideRange (range.Meets i) = ⊥
+IsWideRange r = IsTrue (is_wide_range r)
 
 -- the range is empty
 abbrev pub IsEmptyRange : Range → Type 0
-IsEmptyRange range.Wide = ⊥
-IsEmptyRange range.Empty = Unit {0}
-IsEmptyRange (range.Meets i) = ⊥
+IsEmptyRange r = IsTrue (is_empty_range r)
 
 -- something lies in the interval
 abbrev pub IsSomeInterval : Interval Ratio → Type 0

@@ -8,5 +8,5 @@ no e = cc
 pub returns-in-Less : goal.returns-in-Less
 returns-in-Less g c = (
   λ e. absurd (no e),
-  λ crosses. absurd (not_crossed g.E.Exact.parts c.args.low c.args.high c.value.result c.value-2.result c.value.ensures c.value-2.ensures c.in-Less.ensures crosses),
+  λ crosses. absurd (not_crossed g.E.Exact.parts c.args.low c.args.high c.value.result c.value-2.result c.value.ensures c.value-2.ensures c.in-Less.ensures.exact crosses),
 )

@@ -1,9 +1,9 @@
 -- Small documents, and the trees that the definitions give them.
 use lib.Utf8.{encode}
-use Rattle.std.specs.Prelude.{◌≡◌, ℕ, true, false, List, [], ◌∷◌, Option, Some, None, codes, refl}
+use Rattle.std.specs.Prelude.{◌≡◌, ℕ, true, List, [], ◌∷◌, Option, Some, None, codes, refl}
 use Rattle.xc_elements.specs.Fronts.{exactly}
-use Rattle.xc_elements.specs.Items.{Name, Pair, Meaning, Start, Empty, End, Letter, Reference}
-use Rattle.xc_elements.specs.Trees.{declarations_space, space_in_scope}
+use Rattle.xc_elements.specs.Items.{Name, Pair, Start, Empty, End, Letter, Reference}
+use Rattle.xc_elements.specs.Trees.{declarations_space}
 use Rattle.xc_elements.specs.Elements.{nodes_of, is_unbalanced, has_no_space, has_same_attribute}
 use Rattle.xc_elements.specs.declared.nodes.Attribute.{Attribute}
 use Rattle.xc_elements.specs.declared.nodes.Node.{Node}

@@ -1,7 +1,7 @@
 -- Parents stand before their children, and the root's end behind all others.
 use Rattle.std.proofs.Common.{◌≡◌, ◌<◌, ◌≤◌, ◌==◌, ◌||◌, ℕ, zero, suc, max, List, Bool, true, false, Option, Some, None, length, slice_get, option_map, option_and_then, IfSome, refl, sym, ap, subst, ◌∙◌, arith}
 use Rattle.std.specs.List.{list_any}
-use Rattle.xc_elements.specs.Trees.{IsTree, upward, ancestors, parent_of, end_of}
+use Rattle.xc_elements.specs.Trees.{IsTree, upward, parent_of}
 use Rattle.xc_elements.specs.declared.nodes.Node.{Node}
 
 either : (a b : Bool) → b ≡ true → (a || b) ≡ true

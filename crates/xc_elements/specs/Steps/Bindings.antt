@@ -4,7 +4,7 @@ use Rattle.std.specs.Borrow.{Bor}
 use Rattle.std.specs.BTreeMap.{BTreeMap, get_by}
 use Rattle.std.specs.Ordering.{nat_cmp}
 use Rattle.std.specs.Cmp.Lexicographic.{slice_cmp}
-use Rattle.std.specs.Str.{chars, bytes_eq}
+use Rattle.std.specs.Str.{bytes_eq}
 use Rattle.xc_elements.specs.Views.{lent}
 use Rattle.xc_elements.specs.Namespaces.{Binding}
 use Rattle.xc_elements.specs.declared.scope.BoundPrefix.{BoundPrefix}

@@ -1,5 +1,4 @@
 use Rattle.std.proofs.Common.{◌≡◌, ◌-◌, length, drop}
-use Rattle.xc_elements.proofs.ScopeLaws.{leave_more, leave_none}
 use Rattle.xc_elements.proofs.scope.Scope.leave.Given as goal
 
 -- leaving from here leads to the same

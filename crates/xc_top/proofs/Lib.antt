@@ -1,6 +1,7 @@
 pub mod Fetched
 pub mod Few
 pub mod Judging
+pub mod Leaving
 pub mod KnownAlike
 pub mod Numbering
 pub mod OneAnswer

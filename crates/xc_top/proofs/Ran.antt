@@ -1,5 +1,5 @@
 -- How a run ended: steps from what its parts say.
-use Rattle.std.proofs.Common.{◌≡◌, ◌⊎◌, ◌<◌, ℕ, List, [], ◌∷◌, length, Bool, true, false, Option, Some, None, nat_lt, refl, sym, ap, subst, inl, inr, cond, arith}
+use Rattle.std.proofs.Common.{◌≡◌, ◌⊎◌, ◌<◌, ◌≤◌, ◌+◌, ℕ, List, [], ◌∷◌, length, Bool, true, false, Option, Some, None, nat_lt, refl, sym, ap, subst, inl, inr, cond, arith}
 use Rattle.std.specs.Prelude.{IsSomeAnd, codes}
 use Rattle.std.proofs.lemmas.Bool.Decides.{nat_tests}
 use Rattle.std.specs.Option.{option_or}
@@ -8,8 +8,9 @@ use Rattle.xc_lines.specs.Lines.{usage_line}
 use Rattle.xc_top.specs.Answer.{IsAnswer, IsCommandAnswer}
 use Rattle.xc_top.specs.Answers.{make_answer, unread, refused}
 use Rattle.xc_top.specs.Documents.{limit, unfetched_of, first_unfetched}
-use Rattle.xc_top.specs.Run.{IsAnswered, IsEnding, IsReadFaultOf, IsReadFaultLine, IsTooLong, AreHeldUpTo, HasFiles, IsUnrefused, IsJudged}
-use Rattle.xc_top.specs.Words.{CommandWords, file_words, words_of}
+use Rattle.xc_top.specs.Run.{IsAnswered, IsEnding, IsReadFaultOf, IsReadFaultLine, IsTooLong, AreHeldUpTo, HasFiles, IsUnrefused, IsJudged, LacksFile}
+use Rattle.xc_top.proofs.Leaving.{lacks_file}
+use Rattle.xc_top.specs.Words.{CommandWords, file_words, files_named, words_of}
 use Rattle.xc_top.specs.declared.status.Answer.{Answer}
 use Rattle.xc_top.specs.declared.status.Status.{Status}
 use Rattle.xc_top.specs.declared.status.Status.TheVariants.{Sound, Findings, Usage, Refused, TooWide, ReadFault, WriteFault, Memory}
@@ -56,6 +57,14 @@ held_all files (word ∷ words) answer is read = held_one word (files word) (fir
 pub command_held : (words : Option CommandWords) (command : CommandWords) (files : Files) (answer : Answer) → Some command ≡ words → IsCommandAnswer command files answer → ¬ (answer.status ≡ ReadFault) → HasFiles words files
 command_held words command files answer e (inl first) read = subst (λ w. HasFiles w files) e (held_all files (file_words command) answer (inl first) read)
 command_held words command files answer e (inr answered) read = subst (λ w. HasFiles w files) e (held_all files (file_words command) answer (inr answered.fetched) read)
+
+-- no more fetches than the command has files
+pub few_fetches : (words : Option CommandWords) (command : CommandWords) (before now : ℕ) → Some command ≡ words → now ≤ before + length (file_words command) → now ≤ before + length (files_named words)
+few_fetches words command before now e few = subst (λ w. now ≤ before + length (files_named w)) e few
+
+-- where the first file that is not fetched is a read fault, one is not held
+pub lacking : (words : Option CommandWords) (command : CommandWords) (files : Files) (answer : Answer) → Some command ≡ words → answer.status ≡ ReadFault → first_unfetched files (file_words command) ≡ Some answer → LacksFile files (files_named words)
+lacking words command files answer e ended first = subst (λ w. LacksFile files (files_named w)) e (lacks_file files (file_words command) answer ended first)
 
 -- words that are not accepted are not answered by verdicts
 pub usage_unjudged : {A : Type 0} (words : List (List ℕ)) (files : Files) → None ≡ words_of words → IsUnrefused words files → A

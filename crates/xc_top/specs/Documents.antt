@@ -47,6 +47,11 @@ AreDocumentsOf files [] (document ∷ documents) = ⊥
 AreDocumentsOf files (word ∷ words) [] = ⊥
 AreDocumentsOf files (word ∷ words) (document ∷ documents) = IsDocumentOf files word document × AreDocumentsOf files words documents
 
+-- all of these words are fetched, and the documents are theirs
+pub record AreFetched (files : Files) (words : List (List ℕ)) (documents : List Document) : Type 0 where
+  pub fetched : first_unfetched files words ≡ None
+  pub read : AreDocumentsOf files words documents
+
 -- elements whose root is neither that of a schema nor that of a linkbase
 abbrev pub root_refusal : List ℕ → List Node → Option Answer
 root_refusal word nodes =

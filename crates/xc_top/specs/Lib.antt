@@ -8,6 +8,7 @@ pub mod Laws
 pub mod Named
 pub mod Run
 pub mod Status
+pub mod Steps
 pub mod Sums
 pub mod Taxonomies
 pub mod Views

@@ -67,6 +67,11 @@ abbrev pub AreHeldUpTo : Files → List (List ℕ) → Type 0
 AreHeldUpTo files [] = Unit {0}
 AreHeldUpTo files (word ∷ words) = IsSomeAnd (files word) (λ bytes. IsTooLong bytes ⊎ AreHeldUpTo files words)
 
+-- one of these files is not held
+abbrev pub LacksFile : Files → List (List ℕ) → Type 0
+LacksFile files [] = ⊥
+LacksFile files (word ∷ words) = (files word ≡ None) ⊎ LacksFile files words
+
 -- the files that the words name are held, up to the first that is too long
 abbrev pub HasFiles : Option CommandWords → Files → Type 0
 HasFiles None files = Unit {0}

@@ -105,6 +105,11 @@ abbrev pub file_words : CommandWords → List (List ℕ)
 file_words (SumOf sum) = sum.report ∷ []
 file_words (CheckOf check) = check.report ∷ check.documents
 
+-- the files that words name; words that are not accepted name none
+abbrev pub files_named : Option CommandWords → List (List ℕ)
+files_named None = []
+files_named (Some command) = file_words command
+
 -- the bytes of each word
 abbrev pub texts : List (String Global) → List (List ℕ)
 texts words = map (λ word. string_bytes word) words

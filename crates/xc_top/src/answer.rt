@@ -1,12 +1,10 @@
 // What a command answers.
-ghost use Rattle.std.specs.Prelude.{◌≡◌, ◌≤◌, true, IfOk, IfSome};
-ghost use Rattle.xc_io.specs.Faults.{Rose};
-ghost use Rattle.xc_top.specs.Answer.{IsCommandAnswer};
+ghost use Rattle.std.specs.Prelude.{◌≡◌, length, IfOk};
 ghost use Rattle.xc_top.specs.Answers.{Answers, IsAnswerIn};
 ghost use Rattle.xc_top.specs.Named.{named, named_sum, named_check};
-ghost use Rattle.xc_top.specs.Run.{IsEnding, IsReadFaultOf};
+ghost use Rattle.xc_top.specs.Run.{IsEnding};
+ghost use Rattle.xc_top.specs.Steps.Fetches.{IsOver, Leaves};
 ghost use Rattle.xc_top.specs.Words.{SumOf, CheckOf, file_words};
-ghost use Rattle.xc_top.specs.declared.status.Status.TheVariants as status;
 
 use crate::check::answer_documents;
 use crate::documents::{fetch, fetch_documents};
@@ -23,20 +21,9 @@ pub fn answer_command<S: Shelf>(
     command: &Command<'_>,
     shelf: &mut S,
 ) -> Result<Answer, Memory>
-    // Where no fetch failed the answer is that of the files held.
-    ensures told { IfOk result (λ answer. ¬ (answer.status ≡ status.ReadFault) →
-        IfSome (S.held shelf.old) (λ files. IsCommandAnswer (named command.now) files answer)) }
-
-    // A fetch failed only where the count rose, and on a steady shelf where a file is not held.
-    ensures read { IfOk result (λ answer. answer.status ≡ status.ReadFault →
-        Rose (S.faults shelf.old) (S.faults shelf.new)) }
-    ensures read_line { IfOk result (λ answer. answer.status ≡ status.ReadFault →
-        IsReadFaultOf (file_words (named command.now)) answer.text) }
-    ensures read_steady { IfOk result (λ answer. answer.status ≡ status.ReadFault → S.steady shelf.old ≡ true →
-        IfSome (S.held shelf.old) (λ files. IsCommandAnswer (named command.now) files answer)) }
-
+    ensures answer { IfOk result (λ answer. IsOver S.held S.steady S.faults shelf.old shelf.new (named command.now) answer) }
     ensures ends { IfOk result (λ answer. IsEnding answer.status) }
-    ensures later { S.faults shelf.old ≤ S.faults shelf.new }
+    ensures left { Leaves S.held S.steady S.faults S.fetches shelf.old shelf.new (length (file_words (named command.now))) }
 {
     settled(answer_of(alloc, command, shelf))
 }
@@ -53,16 +40,8 @@ fn settled(answer: Result<Answer, Stop>) -> Result<Answer, Memory>
 }
 
 fn answer_of<S: Shelf>(alloc: Global, command: &Command<'_>, shelf: &mut S) -> Result<Answer, Stop>
-    ensures told { Answers result (λ answer. ¬ (answer.status ≡ status.ReadFault) →
-        IfSome (S.held shelf.old) (λ files. IsCommandAnswer (named command.now) files answer)) }
-    ensures read { Answers result (λ answer. answer.status ≡ status.ReadFault →
-        Rose (S.faults shelf.old) (S.faults shelf.new)) }
-    ensures read_line { Answers result (λ answer. answer.status ≡ status.ReadFault →
-        IsReadFaultOf (file_words (named command.now)) answer.text) }
-    ensures read_steady { Answers result (λ answer. answer.status ≡ status.ReadFault → S.steady shelf.old ≡ true →
-        IfSome (S.held shelf.old) (λ files. IsCommandAnswer (named command.now) files answer)) }
-    ensures ends { Answers result (λ answer. IsEnding answer.status) }
-    ensures later { S.faults shelf.old ≤ S.faults shelf.new }
+    ensures answer { Answers result (λ answer. IsOver S.held S.steady S.faults shelf.old shelf.new (named command.now) answer) }
+    ensures left { Leaves S.held S.steady S.faults S.fetches shelf.old shelf.new (length (file_words (named command.now))) }
 {
     match command {
         Command::Sum(sum) => answer_sum(alloc, sum, shelf),
@@ -71,32 +50,16 @@ fn answer_of<S: Shelf>(alloc: Global, command: &Command<'_>, shelf: &mut S) -> R
 }
 
 fn answer_sum<S: Shelf>(alloc: Global, sum: &Sum<'_>, shelf: &mut S) -> Result<Answer, Stop>
-    ensures told { Answers result (λ answer. ¬ (answer.status ≡ status.ReadFault) →
-        IfSome (S.held shelf.old) (λ files. IsCommandAnswer (SumOf (named_sum sum.now)) files answer)) }
-    ensures read { Answers result (λ answer. answer.status ≡ status.ReadFault →
-        Rose (S.faults shelf.old) (S.faults shelf.new)) }
-    ensures read_line { Answers result (λ answer. answer.status ≡ status.ReadFault →
-        IsReadFaultOf (file_words (SumOf (named_sum sum.now))) answer.text) }
-    ensures read_steady { Answers result (λ answer. answer.status ≡ status.ReadFault → S.steady shelf.old ≡ true →
-        IfSome (S.held shelf.old) (λ files. IsCommandAnswer (SumOf (named_sum sum.now)) files answer)) }
-    ensures ends { Answers result (λ answer. IsEnding answer.status) }
-    ensures later { S.faults shelf.old ≤ S.faults shelf.new }
+    ensures answer { Answers result (λ answer. IsOver S.held S.steady S.faults shelf.old shelf.new (SumOf (named_sum sum.now)) answer) }
+    ensures left { Leaves S.held S.steady S.faults S.fetches shelf.old shelf.new (length (file_words (SumOf (named_sum sum.now)))) }
 {
     let report = fetch(alloc, sum.report, shelf)?;
     answer_report(alloc, sum, &report)
 }
 
 fn answer_check<S: Shelf>(alloc: Global, check: &Check<'_>, shelf: &mut S) -> Result<Answer, Stop>
-    ensures told { Answers result (λ answer. ¬ (answer.status ≡ status.ReadFault) →
-        IfSome (S.held shelf.old) (λ files. IsCommandAnswer (CheckOf (named_check check.now)) files answer)) }
-    ensures read { Answers result (λ answer. answer.status ≡ status.ReadFault →
-        Rose (S.faults shelf.old) (S.faults shelf.new)) }
-    ensures read_line { Answers result (λ answer. answer.status ≡ status.ReadFault →
-        IsReadFaultOf (file_words (CheckOf (named_check check.now))) answer.text) }
-    ensures read_steady { Answers result (λ answer. answer.status ≡ status.ReadFault → S.steady shelf.old ≡ true →
-        IfSome (S.held shelf.old) (λ files. IsCommandAnswer (CheckOf (named_check check.now)) files answer)) }
-    ensures ends { Answers result (λ answer. IsEnding answer.status) }
-    ensures later { S.faults shelf.old ≤ S.faults shelf.new }
+    ensures answer { Answers result (λ answer. IsOver S.held S.steady S.faults shelf.old shelf.new (CheckOf (named_check check.now)) answer) }
+    ensures left { Leaves S.held S.steady S.faults S.fetches shelf.old shelf.new (length (file_words (CheckOf (named_check check.now)))) }
 {
     let report = fetch(alloc, check.report, shelf)?;
     let documents = fetch_documents(alloc, check.documents, shelf)?;

@@ -1,12 +1,10 @@
 // The files of a run, and the documents in them.
-ghost use Rattle.std.specs.Prelude.{◌≡◌, ◌≤◌, ◌<◌, ◌^◌, ◌∷◌, [], ℕ, List, Some, None, true, length, map, IfOk, IfSome, OnOk};
-ghost use Rattle.xc_io.specs.Faults.{Rose};
-ghost use Rattle.xc_lists.specs.Places.{first_given};
-ghost use Rattle.xc_top.specs.Answers.{IfStopped, unread};
-ghost use Rattle.xc_top.specs.Documents.{limit, unfetched, first_unfetched, IsDocumentOf, AreDocumentsOf, IsContentOf, root_refusal, document_refusal, first_unread};
-ghost use Rattle.xc_top.specs.Run.{IsReadFaultOf, IsEnding, IsSettled};
+ghost use Rattle.std.specs.Prelude.{◌≡◌, ◌≤◌, ◌∷◌, [], Some, None, length, IfOk, IfSome, OnOk};
+ghost use Rattle.xc_top.specs.Answers.{IfStopped};
+ghost use Rattle.xc_top.specs.Documents.{limit, AreFetched, IsContentOf, root_refusal, document_refusal, first_unread};
+ghost use Rattle.xc_top.specs.Run.{IsSettled};
+ghost use Rattle.xc_top.specs.Steps.Fetches.{IsUnfetched, Leaves};
 ghost use Rattle.xc_top.specs.Words.{texts};
-ghost use Rattle.xc_top.specs.declared.status.Status.TheVariants as status;
 
 use crate::refusals::{refused, tree_refusal, unread};
 use crate::status::Stop;
@@ -37,25 +35,13 @@ pub struct Document {
 }
 
 /// The bytes that are held under a word, at most the limit.
+#[tactic(auto, using(crate::proofs::Leaving::one_fetch))]
 pub fn fetch<S: Shelf>(alloc: Global, word: &str, shelf: &mut S) -> Result<Vec<u8>, Stop>
-    // Where the fetch did not fail, it is told what is held.
     ensures held { IfOk result (λ bytes. IfSome (S.held shelf.old) (λ files. files word.now ≡ Some bytes.items)) }
     ensures short { IfOk result (λ bytes. length bytes.items ≤ limit) }
-    ensures fetched { IfOk result (λ bytes. IfSome (S.held shelf.old) (λ files. unfetched files word.now ≡ None)) }
-    ensures refused { IfStopped result (λ answer. ¬ (answer.status ≡ status.ReadFault) →
-        IfSome (S.held shelf.old) (λ files. unfetched files word.now ≡ Some answer)) }
-
-    // A fetch failed only where the count rose, and on a steady shelf where nothing is held.
-    ensures read { IfStopped result (λ answer. answer.status ≡ status.ReadFault →
-        Rose (S.faults shelf.old) (S.faults shelf.new)) }
-    ensures read_line { IfStopped result (λ answer. answer.status ≡ status.ReadFault → answer ≡ unread word.now) }
-    ensures read_steady { IfStopped result (λ answer. answer.status ≡ status.ReadFault → S.steady shelf.old ≡ true →
-        IfSome (S.held shelf.old) (λ files. unfetched files word.now ≡ Some answer)) }
-
-    ensures ends { IfStopped result (λ answer. IsEnding answer.status) }
-    ensures same { S.held shelf.new ≡ S.held shelf.old }
-    ensures stays { S.steady shelf.old ≡ true → S.steady shelf.new ≡ true }
-    ensures later { S.faults shelf.old ≤ S.faults shelf.new }
+    ensures worked { OnOk result (S.faults shelf.new ≡ S.faults shelf.old) }
+    ensures unfetched { IfStopped result (λ answer. IsUnfetched S.held S.steady S.faults shelf.old shelf.new (word.now ∷ []) answer) }
+    ensures left { Leaves S.held S.steady S.faults S.fetches shelf.old shelf.new 1 }
 {
     match shelf.fetch(word, LIMIT) {
         Ok(bytes) => Ok(bytes),
@@ -71,26 +57,27 @@ pub fn fetch_documents<S: Shelf>(
     words: &[String],
     shelf: &mut S,
 ) -> Result<Vec<Document>, Stop>
-    ensures documents { IfOk result (λ documents. IfSome (S.held shelf.old) (λ files. AreDocumentsOf files (texts words.now) documents.items)) }
-    ensures fetched { IfOk result (λ documents. IfSome (S.held shelf.old) (λ files. first_unfetched files (texts words.now) ≡ None)) }
-    ensures refused { IfStopped result (λ answer. ¬ (answer.status ≡ status.ReadFault) →
-        IfSome (S.held shelf.old) (λ files. first_unfetched files (texts words.now) ≡ Some answer)) }
-
-    ensures read { IfStopped result (λ answer. answer.status ≡ status.ReadFault →
-        Rose (S.faults shelf.old) (S.faults shelf.new)) }
-    ensures read_line { IfStopped result (λ answer. answer.status ≡ status.ReadFault → IsReadFaultOf (texts words.now) answer.text) }
-    ensures read_steady { IfStopped result (λ answer. answer.status ≡ status.ReadFault → S.steady shelf.old ≡ true →
-        IfSome (S.held shelf.old) (λ files. first_unfetched files (texts words.now) ≡ Some answer)) }
-
-    ensures ends { IfStopped result (λ answer. IsEnding answer.status) }
-    ensures later { S.faults shelf.old ≤ S.faults shelf.new }
+    ensures documents { IfOk result (λ documents. IfSome (S.held shelf.old) (λ files. AreFetched files (texts words.now) documents.items)) }
+    ensures worked { OnOk result (S.faults shelf.new ≡ S.faults shelf.old) }
+    ensures unfetched { IfStopped result (λ answer. IsUnfetched S.held S.steady S.faults shelf.old shelf.new (texts words.now) answer) }
+    ensures left { Leaves S.held S.steady S.faults S.fetches shelf.old shelf.new (length words.now) }
 {
     let mut documents = Vec::new(alloc);
     for word in words {
-        let bytes = fetch(alloc, word.as_str(), shelf)?;
-        documents.push(document_of(alloc, word.as_str(), &bytes)?)?;
+        documents.push(fetch_document(alloc, word.as_str(), shelf)?)?;
     }
     Ok(documents)
+}
+
+// The document that is held under a word.
+fn fetch_document<S: Shelf>(alloc: Global, word: &str, shelf: &mut S) -> Result<Document, Stop>
+    ensures document { IfOk result (λ document. IfSome (S.held shelf.old) (λ files. AreFetched files (word.now ∷ []) (document ∷ []))) }
+    ensures worked { OnOk result (S.faults shelf.new ≡ S.faults shelf.old) }
+    ensures unfetched { IfStopped result (λ answer. IsUnfetched S.held S.steady S.faults shelf.old shelf.new (word.now ∷ []) answer) }
+    ensures left { Leaves S.held S.steady S.faults S.fetches shelf.old shelf.new 1 }
+{
+    let bytes = fetch(alloc, word, shelf)?;
+    Ok(document_of(alloc, word, &bytes)?)
 }
 
 // The document of these bytes.

@@ -1,13 +1,13 @@
 // The top call.
-ghost use Rattle.std.specs.Prelude.{◌≡◌, ◌≢◌, ◌⊎◌, ℕ, List, None, true, IfSome};
+ghost use Rattle.std.specs.Prelude.{◌≡◌, ◌≢◌, ◌≤◌, ◌+◌, ◌⊎◌, ℕ, List, None, true, length, IfSome};
 ghost use Rattle.std.specs.Io.KnownBytes.{Appends, Keeps};
-ghost use Rattle.xc_io.specs.Faults.{Rose};
+ghost use Rattle.xc_io.specs.Faults.{Rose, next_count};
 ghost use Rattle.xc_lines.specs.Lines.{usage_line};
 ghost use Rattle.xc_top.specs.Answer.{IsAnswerOf};
 ghost use Rattle.xc_top.specs.Answers.{make_answer};
 ghost use Rattle.xc_top.specs.Laws.{AnswersAreOne};
-ghost use Rattle.xc_top.specs.Run.{IsAnswered, AppendsPart, IsReadFaultLine, HasFiles, IsUnrefused, IsJudged};
-ghost use Rattle.xc_top.specs.Words.{words_of, texts};
+ghost use Rattle.xc_top.specs.Run.{IsAnswered, AppendsPart, IsReadFaultLine, HasFiles, IsUnrefused, IsJudged, LacksFile};
+ghost use Rattle.xc_top.specs.Words.{files_named, words_of, texts};
 ghost use Rattle.xc_top.specs.declared.status.Answer.{Answer};
 
 use crate::Status;
@@ -53,6 +53,22 @@ pub fn run<S: Shelf, O: Sink>(alloc: Global, words: &[String], shelf: &mut S, ou
     ensures read_steady { S.steady shelf.old ≡ true → IfSome (S.held shelf.old) (λ files. result ≡ Status.ReadFault →
         (text : List ℕ) × IsAnswerOf (texts words.now) files (make_answer result text)
         × Appends (O.written out.old) (O.written out.new) text) }
+    ensures lacking { S.steady shelf.old ≡ true → IfSome (S.held shelf.old) (λ files. result ≡ Status.ReadFault →
+        LacksFile files (files_named (words_of (texts words.now)))) }
+
+    // An answer comes only where no fetch failed, and any ending but a write fault only where no put did.
+    ensures fetched { IsAnswered result → S.faults shelf.new ≡ S.faults shelf.old }
+    ensures put { result ≢ Status.WriteFault → O.faults out.new ≡ O.faults out.old }
+
+    // No file is fetched twice, and all is written in one put; where memory is wanting there is none.
+    ensures fetches { S.fetches shelf.new ≤ S.fetches shelf.old + length (files_named (words_of (texts words.now))) }
+    ensures puts { result ≢ Status.Memory → O.puts out.new ≡ next_count (O.puts out.old) }
+    ensures no_put { result ≡ Status.Memory → O.puts out.new ≡ O.puts out.old }
+
+    // The shelf holds what it held, and stays steady.
+    ensures same { S.held shelf.new ≡ S.held shelf.old }
+    ensures stays { S.steady shelf.old ≡ true → S.steady shelf.new ≡ true }
+    ensures later { S.faults shelf.old ≤ S.faults shelf.new }
 
     // A write fault comes only where the sink's count rose, and leaves a beginning of what was to be written.
     ensures write { result ≡ Status.WriteFault → Rose (O.faults out.old) (O.faults out.new) }
@@ -88,6 +104,8 @@ fn write_text<O: Sink>(out: &mut O, text: &[u8], status: Status) -> Status
     ensures fault { result ≡ Status.WriteFault → Rose (O.faults out.old) (O.faults out.new) }
     ensures part { result ≡ Status.WriteFault →
         AppendsPart (O.room out.old) (O.written out.old) (O.written out.new) text.now }
+    ensures worked { result ≢ Status.WriteFault → O.faults out.new ≡ O.faults out.old }
+    ensures counted { O.puts out.new ≡ next_count (O.puts out.old) }
 {
     match out.put(text) {
         Ok(()) => status,

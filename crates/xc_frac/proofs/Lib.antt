@@ -8,3 +8,4 @@ pub mod LowestTerms
 pub mod Orders
 pub mod PartsOver
 pub mod PowersOfTen
+pub mod QuickSums

@@ -1,4 +1,4 @@
-ghost use Rattle.std.specs.Prelude.{◌≡◌, ◌≢◌, ℕ, ℤ, pos, neg_ℤ, ◌<◌, ◌^◌, ◌*ℤ◌, ◌+ℤ◌, ◌-ℤ◌, ◌↔◌, IsNone, IsOk, IfSome, IfNone, OnSome, IfOk, IfErr, OnOk, OnErr};
+ghost use Rattle.std.specs.Prelude.{◌≡◌, ◌≢◌, ℕ, ℤ, pos, neg_ℤ, ◌<◌, ◌^◌, ◌*ℤ◌, ◌+ℤ◌, ◌-ℤ◌, ◌↔◌, IsTrue, IsNone, IsOk, IfSome, IfNone, OnSome, IfOk, IfErr, OnOk, OnErr};
 ghost use Rattle.xc_model.specs.Fraction.{whole, SameNumber, neg_of, sum_of, difference_of, product_of, IsQuotient, IsProductOver, IsQuotientOver};
 ghost use Rattle.xc_model.specs.Order.{Orders, OrdersInt, SameSign};
 ghost use Rattle.xc_model.specs.Ratio.{IsLowest, fraction_of, IsOver};
@@ -187,8 +187,58 @@ impl Frac {
         }
     }
 
+    // Whether it is a whole number.
+    fn is_whole(self) -> bool
+        ensures { IsTrue result ↔ (self.den ≡ pos 1) }
+    {
+        self.den == 1
+    }
+
+    // Whether it is 0.
+    fn is_zero(self) -> bool
+        ensures { IsTrue result ↔ (self.num ≡ pos 0) }
+    {
+        self.num == 0
+    }
+
     // The sum, where nothing passes over the least common denominator.
     fn sum(self, other: Frac) -> Option<Frac>
+        ensures exact { IfSome result (λ r.
+            SameNumber (fraction_of r) (sum_of (fraction_of self) (fraction_of other))) }
+        ensures fits { OnSome result (¬ (SumPasses (fraction_of self) (fraction_of other))) }
+        ensures passes { IfNone result (SumPasses (fraction_of self) (fraction_of other)) }
+    {
+        if self.is_whole() {
+            if other.is_whole() {
+                return self.whole_sum(other);
+            }
+        }
+        if self.is_zero() {
+            return Some(other);
+        }
+        if other.is_zero() {
+            return Some(self);
+        }
+        self.unlike_sum(other)
+    }
+
+    // The sum of two whole numbers, where it fits.
+    fn whole_sum(self, other: Frac) -> Option<Frac>
+        requires own { self.den ≡ pos 1 }
+        requires others { other.den ≡ pos 1 }
+        ensures exact { IfSome result (λ r.
+            SameNumber (fraction_of r) (sum_of (fraction_of self) (fraction_of other))) }
+        ensures fits { OnSome result (¬ (SumPasses (fraction_of self) (fraction_of other))) }
+        ensures passes { IfNone result (SumPasses (fraction_of self) (fraction_of other)) }
+    {
+        let Some(num) = integers::sum(self.num, other.num) else {
+            return None;
+        };
+        Some(Frac::lowest(num, 1))
+    }
+
+    // The sum by way of the least common denominator.
+    fn unlike_sum(self, other: Frac) -> Option<Frac>
         ensures exact { IfSome result (λ r.
             SameNumber (fraction_of r) (sum_of (fraction_of self) (fraction_of other))) }
         ensures fits { OnSome result (¬ (SumPasses (fraction_of self) (fraction_of other))) }

@@ -60,7 +60,7 @@ pub fn run<S: Shelf, O: Sink>(alloc: Global, words: &[String], shelf: &mut S, ou
     ensures fetched { IsAnswered result → S.faults shelf.new ≡ S.faults shelf.old }
     ensures put { result ≢ Status.WriteFault → O.faults out.new ≡ O.faults out.old }
 
-    // No file is fetched twice, and all is written in one put; where memory is wanting there is none.
+    // There are no more fetches than file words, and all is written in one put; where memory is wanting there is none.
     ensures fetches { S.fetches shelf.new ≤ S.fetches shelf.old + length (files_named (words_of (texts words.now))) }
     ensures puts { result ≢ Status.Memory → O.puts out.new ≡ next_count (O.puts out.old) }
     ensures no_put { result ≡ Status.Memory → O.puts out.new ≡ O.puts out.old }

@@ -1,7 +1,5 @@
-ghost use Rattle.std.specs.Prelude.{◌≢◌, pos};
-
-use super::{MOST, fraction};
-use crate::{Delta, Exact, Frac, Op, Scalar, Wide};
+use super::{MOST, fraction, orders};
+use crate::{Delta, Exact, Frac, Op, Wide};
 use std::cmp::Ordering;
 use std::test::Fail;
 
@@ -18,37 +16,6 @@ fn delta(real: i128, tiny: i128) -> Option<Delta<Frac>> {
 
 fn sums<E: Exact>(left: E, right: E) -> [Result<E, Wide>; 2] {
     [left.add(right), left.sub(right)]
-}
-
-fn orders<E: Exact>(left: E, right: E) -> [Ordering; 3] {
-    let sign = left.compare(E::zero());
-    [left.compare(right), right.neg().compare(left.neg()), sign]
-}
-
-fn products<K: Scalar>(left: K, right: K) -> [Result<K, Wide>; 3]
-    requires { (K.parts right).real.num ≢ pos 0 }
-{
-    [left.mul(right), left.div(right), right.mul(K::one())]
-}
-
-#[test]
-fn fractions_through_the_bounds(rt: HostRuntime) -> Result<(), Fail> {
-    let half = fraction(1, 2).ok_or("no fraction")?;
-    let third = fraction(1, 3).ok_or("no fraction")?;
-    if third.num() != 0 {
-        let [sum, difference] = sums(half, third);
-        assert_eq!(rt; sum.ok(), fraction(5, 6));
-        assert_eq!(rt; difference.ok(), fraction(1, 6));
-        let [product, quotient, same] = products(half, third);
-        assert_eq!(rt; product.ok(), fraction(1, 6));
-        assert_eq!(rt; quotient.ok(), fraction(3, 2));
-        assert_eq!(rt; same.ok(), Some(third));
-    }
-    assert_eq!(rt;
-        orders(third, half),
-        [Ordering::Less, Ordering::Less, Ordering::Greater]
-    );
-    Ok(())
 }
 
 #[test]
@@ -108,9 +75,21 @@ fn wide_parts_of_deltas(rt: HostRuntime) -> Result<(), Fail> {
         match (answer(op, left, right).ok_or("by zero")?, want) {
             (Ok(got), Ok((real, tiny))) => assert_eq!(rt; Some(got), delta(real, tiny)),
             (Err(wide), Err((part, (num, den)))) => {
-                let left = fraction(part, 1).ok_or("no fraction")?;
-                let right = fraction(num, den).ok_or("no fraction")?;
-                assert_eq!(rt; wide, Wide { op, left, right });
+                let part = fraction(part, 1).ok_or("no fraction")?;
+                let other = fraction(num, den).ok_or("no fraction")?;
+                let want = match op {
+                    Op::Mul => Wide {
+                        op,
+                        left: other,
+                        right: part,
+                    },
+                    _ => Wide {
+                        op,
+                        left: part,
+                        right: other,
+                    },
+                };
+                assert_eq!(rt; wide, want);
             }
             _ => assert!(rt; false, "{op:?} of {left:?} and {right:?}"),
         }

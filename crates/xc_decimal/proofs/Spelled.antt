@@ -13,7 +13,7 @@ use Rattle.xc_model.proofs.Integers.{mul_comm, cancel}
 use Rattle.xc_frac.proofs.LowestTerms.{cross_tells, one_lowest}
 use Rattle.xc_decimal.specs.Digits.{AreDigits}
 use Rattle.xc_decimal.specs.Laws.{HasOneSpelling}
-use Rattle.xc_decimal.specs.Spelling.{spelling, is_slash, IsNaturalOf, IsIntegerOf}
+use Rattle.xc_decimal.specs.Spelling.{spelling, ends_numerator, IsNaturalOf, IsIntegerOf}
 use Rattle.xc_decimal.proofs.Narrow.{digit_bounds}
 use Rattle.xc_decimal.proofs.Numerals.{few, decimal_digits, decimal_unique}
 use Rattle.xc_decimal.proofs.Points.{Clear, before_mark, after_mark, position_clear, before_place, after_place, place_within, place_behind, none_before}
@@ -88,18 +88,18 @@ module _ (text : List ℕ) (z : ℤ) (num : IsIntegerOf text (Some z)) where
 
 -- The slash
 
-no_slash : (c : ℕ) → 48 ≤ c → not (is_slash c) ≡ true
+no_slash : (c : ℕ) → 48 ≤ c → not (ends_numerator c) ≡ true
 no_slash c low = ap not (ne_eqb c 47 (λ e. omega arith))
 
-digits_clear : (digits : List ℕ) → AreDigits digits → Clear is_slash digits
+digits_clear : (digits : List ℕ) → AreDigits digits → Clear ends_numerator digits
 digits_clear [] all = refl
 digits_clear (c ∷ cs) all = let parts = and_parts _ _ all in and_from _ _ (no_slash c (digit_bounds c parts.0).0) (digits_clear cs parts.1)
 
-integer_clear : (z : ℤ) → unsigned_abs z < 2 ^ 127 → Clear is_slash (signed_decimal z)
+integer_clear : (z : ℤ) → unsigned_abs z < 2 ^ 127 → Clear ends_numerator (signed_decimal z)
 integer_clear (pos n) small = digits_clear (decimal n) (decimal_digits n (few n small))
 integer_clear (negsuc n) small = digits_clear (decimal (suc n)) (decimal_digits (suc n) (few (suc n) small))
 
-num_clear : (f : Ratio) → Clear is_slash (signed_decimal f.num)
+num_clear : (f : Ratio) → Clear ends_numerator (signed_decimal f.num)
 num_clear f = integer_clear f.num f.lowest.num_narrow
 
 whole_spelling : (f : Ratio) → f.den ≡ pos 1 → spelling f ≡ signed_decimal f.num
@@ -122,40 +122,40 @@ no_place : (at : ℕ) → ◌≡◌ {A = Option ℕ} (Some at) None → ⊥
 no_place at e = cc
 
 -- a text with a slash is read around it
-pub slash_reads : (text : List ℕ) (at : ℕ) (r : Option Ratio) → position is_slash text ≡ Some at
+pub slash_reads : (text : List ℕ) (at : ℕ) (r : Option Ratio) → position ends_numerator text ≡ Some at
     → ((f : Ratio) → (r ≡ Some f) ↔ ((take at text ≡ signed_decimal f.num) × (take (length text - (at + 1)) (drop (at + 1) text) ≡ decimal (unsigned_abs f.den)) × (f.den ≢ pos 1)))
     → (f : Ratio) → (r ≡ Some f) ↔ (text ≡ spelling f)
 slash_reads text at r place h f =
-    let before = before_place is_slash text at place in
-    let after = after_place is_slash text at place in
-    let within = place_within is_slash text at place in
-    let n : ℕ = position_or_len is_slash text in
-    let slash : get_or text n 0 ≡ 47 = eqb-true (get_or text n 0) 47 (not-false _ (prefix_len_stops (λ c. not (is_slash c)) text 0 within)) in
-    let split : text ≡ before_first is_slash text ++ (47 ∷ after_first is_slash text) =
-    split_at_first is_slash text 0 within ∙ ap (λ c. before_first is_slash text ++ (c ∷ after_first is_slash text)) slash in (
+    let before = before_place ends_numerator text at place in
+    let after = after_place ends_numerator text at place in
+    let within = place_within ends_numerator text at place in
+    let n : ℕ = position_or_len ends_numerator text in
+    let slash : get_or text n 0 ≡ 47 = eqb-true (get_or text n 0) 47 (not-false _ (prefix_len_stops (λ c. not (ends_numerator c)) text 0 within)) in
+    let split : text ≡ before_first ends_numerator text ++ (47 ∷ after_first ends_numerator text) =
+    split_at_first ends_numerator text 0 within ∙ ap (λ c. before_first ends_numerator text ++ (c ∷ after_first ends_numerator text)) slash in (
       λ e.
           let terms = (h f).0 e in
           split ∙ (λ i. (sym before ∙ terms.0) i ++ (47 ∷ (sym after ∙ terms.1) i)) ∙ sym (over_spelling f terms.2),
       λ is. den_cases f
-          (λ one. absurd (no_place at (sym place ∙ ap (position is_slash) (is ∙ whole_spelling f one) ∙ position_clear is_slash (signed_decimal f.num) (num_clear f))))
+          (λ one. absurd (no_place at (sym place ∙ ap (position ends_numerator) (is ∙ whole_spelling f one) ∙ position_clear ends_numerator (signed_decimal f.num) (num_clear f))))
           (λ other.
           let spelled : text ≡ signed_decimal f.num ++ (47 ∷ decimal (unsigned_abs f.den)) = is ∙ over_spelling f other in
           (h f).1 (
-            before ∙ ap (before_first is_slash) spelled ∙ before_mark is_slash (signed_decimal f.num) 47 (decimal (unsigned_abs f.den)) (num_clear f) refl,
-            after ∙ ap (after_first is_slash) spelled ∙ after_mark is_slash (signed_decimal f.num) 47 (decimal (unsigned_abs f.den)) (num_clear f) refl,
+            before ∙ ap (before_first ends_numerator) spelled ∙ before_mark ends_numerator (signed_decimal f.num) 47 (decimal (unsigned_abs f.den)) (num_clear f) refl,
+            after ∙ ap (after_first ends_numerator) spelled ∙ after_mark ends_numerator (signed_decimal f.num) 47 (decimal (unsigned_abs f.den)) (num_clear f) refl,
             other,
           )),
     )
 
-has_slash : (f : Ratio) (text : List ℕ) → position is_slash text ≡ None → f.den ≢ pos 1 → text ≡ spelling f → ⊥
+has_slash : (f : Ratio) (text : List ℕ) → position ends_numerator text ≡ None → f.den ≢ pos 1 → text ≡ spelling f → ⊥
 has_slash f text none other is =
     let spelled : text ≡ signed_decimal f.num ++ (47 ∷ decimal (unsigned_abs f.den)) = is ∙ over_spelling f other in
-    let place = place_behind is_slash (signed_decimal f.num) (47 ∷ decimal (unsigned_abs f.den)) (num_clear f) refl in
+    let place = place_behind ends_numerator (signed_decimal f.num) (47 ∷ decimal (unsigned_abs f.den)) (num_clear f) refl in
     let size = length-append (signed_decimal f.num) (47 ∷ decimal (unsigned_abs f.den)) in
-    omega (arith, none_before is_slash text none, ap (position_or_len is_slash) spelled, ap length spelled, place, size)
+    omega (arith, none_before ends_numerator text none, ap (position_or_len ends_numerator) spelled, ap length spelled, place, size)
 
 -- a text without one is a numerator
-pub whole_text_reads : (text : List ℕ) (r : Option Ratio) → position is_slash text ≡ None
+pub whole_text_reads : (text : List ℕ) (r : Option Ratio) → position ends_numerator text ≡ None
     → ((f : Ratio) → (r ≡ Some f) ↔ ((text ≡ signed_decimal f.num) × (f.den ≡ pos 1)))
     → (f : Ratio) → (r ≡ Some f) ↔ (text ≡ spelling f)
 whole_text_reads text r none h f = (
@@ -163,8 +163,8 @@ whole_text_reads text r none h f = (
   λ is. den_cases f (λ one. (h f).1 (is ∙ whole_spelling f one, one)) (λ other. absurd (has_slash f text none other is)),
 )
 
-whole_clear : (f : Ratio) → f.den ≡ pos 1 → position is_slash (spelling f) ≡ None
-whole_clear f one = ap (position is_slash) (whole_spelling f one) ∙ position_clear is_slash (signed_decimal f.num) (num_clear f)
+whole_clear : (f : Ratio) → f.den ≡ pos 1 → position ends_numerator (spelling f) ≡ None
+whole_clear f one = ap (position ends_numerator) (whole_spelling f one) ∙ position_clear ends_numerator (signed_decimal f.num) (num_clear f)
 
 num_same : (f g : Ratio) → signed_decimal f.num ≡ signed_decimal g.num → f.num ≡ g.num
 num_same f g e = signed_unique f.num g.num f.lowest.num_narrow g.lowest.num_narrow e
@@ -184,8 +184,8 @@ one_spelling f g e = den_cases f
     let right : List ℕ = signed_decimal g.num in
     let texts : left ++ (47 ∷ decimal (unsigned_abs f.den)) ≡ right ++ (47 ∷ decimal (unsigned_abs g.den)) = sym (over_spelling f other) ∙ e ∙ over_spelling g also in
     let nums : left ≡ right =
-    sym (before_mark is_slash left 47 (decimal (unsigned_abs f.den)) (num_clear f) refl) ∙ ap (before_first is_slash) texts ∙ before_mark is_slash right 47 (decimal (unsigned_abs g.den)) (num_clear g) refl in
+    sym (before_mark ends_numerator left 47 (decimal (unsigned_abs f.den)) (num_clear f) refl) ∙ ap (before_first ends_numerator) texts ∙ before_mark ends_numerator right 47 (decimal (unsigned_abs g.den)) (num_clear g) refl in
     let dens : decimal (unsigned_abs f.den) ≡ decimal (unsigned_abs g.den) =
-    sym (after_mark is_slash left 47 (decimal (unsigned_abs f.den)) (num_clear f) refl) ∙ ap (after_first is_slash) texts ∙ after_mark is_slash right 47 (decimal (unsigned_abs g.den)) (num_clear g) refl in
+    sym (after_mark ends_numerator left 47 (decimal (unsigned_abs f.den)) (num_clear f) refl) ∙ ap (after_first ends_numerator) texts ∙ after_mark ends_numerator right 47 (decimal (unsigned_abs g.den)) (num_clear g) refl in
     let size : unsigned_abs f.den ≡ unsigned_abs g.den = decimal_unique _ _ (few _ (terms_narrow f)) (few _ (terms_narrow g)) dens in
     both_terms f g (num_same f g nums) (den_is f (unsigned_abs g.den) size ∙ sym (den_is g (unsigned_abs g.den) refl))))

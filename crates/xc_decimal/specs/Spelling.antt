@@ -13,9 +13,9 @@ denominator_text den = if den == 1 then [] else codes "/" ++ decimal den
 abbrev pub spelling : Ratio → List ℕ
 spelling f = signed_decimal f.num ++ denominator_text (unsigned_abs f.den)
 
--- a slash
-abbrev pub is_slash : ℕ → Bool
-is_slash c = c == 47
+-- the sign behind a numerator that has a denominator
+abbrev pub ends_numerator : ℕ → Bool
+ends_numerator c = c == 47
 
 -- the text without the `-` that it begins with
 abbrev pub without_minus : List ℕ → List ℕ

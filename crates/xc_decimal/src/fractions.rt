@@ -4,7 +4,7 @@ ghost use Rattle.std.specs.Fmt.{signed_decimal};
 ghost use Rattle.xc_model.specs.Ratio.{Ratio};
 ghost use Rattle.xc_model.specs.Width.{IsNarrow};
 ghost use Rattle.xc_decimal.specs.Reading.{is_negative};
-ghost use Rattle.xc_decimal.specs.Spelling.{spelling, is_slash, is_numeral, without_minus, IsIntegerOf, IsNaturalOf};
+ghost use Rattle.xc_decimal.specs.Spelling.{spelling, ends_numerator, is_numeral, without_minus, IsIntegerOf, IsNaturalOf};
 
 use crate::digits::{are_digits, number_behind, signed};
 use std::alloc::Global;
@@ -39,7 +39,7 @@ pub fn read_frac(text: &[u8]) -> Option<Frac>
 
 // Where the first `/` is.
 fn slash_at(text: &[u8]) -> Option<usize>
-    ensures { result ≡ position is_slash text.now }
+    ensures { result ≡ position ends_numerator text.now }
 {
     text.iter().position(|c| *c == b'/')
 }

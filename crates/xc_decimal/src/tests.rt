@@ -11,59 +11,58 @@ fn told(text: &str) -> Result<(i128, u32), DecimalFault> {
 
 #[test]
 fn decimal_texts(rt: HostRuntime) -> Result<(), Fail> {
+    let (no_decimal, wide) = (Err(DecimalFault::NotDecimal), Err(DecimalFault::Wide));
     let cases = [
-        ("-0.50", -5, 1),
-        ("000.1000", 1, 1),
-        ("5.", 5, 0),
-        ("-0", 0, 0),
-        ("-0.000", 0, 0),
-        (".5", 5, 1),
-        ("+.25", 25, 2),
-        ("+7", 7, 0),
-        ("1200", 1200, 0),
-        ("10.010", 1001, 2),
-        ("0.0000000000000000000000000000000000001", 1, 37),
+        ("-0.50", Ok((-5, 1))),
+        ("000.1000", Ok((1, 1))),
+        ("5.", Ok((5, 0))),
+        ("-0", Ok((0, 0))),
+        ("-0.000", Ok((0, 0))),
+        (".5", Ok((5, 1))),
+        ("+.25", Ok((25, 2))),
+        ("+7", Ok((7, 0))),
+        ("1200", Ok((1200, 0))),
+        ("10.010", Ok((1001, 2))),
+        ("0.0000000000000000000000000000000000001", Ok((1, 37))),
         (
             "85070591730234615865843651857942052864",
-            85_070_591_730_234_615_865_843_651_857_942_052_864,
-            0,
+            Ok((85_070_591_730_234_615_865_843_651_857_942_052_864, 0)),
         ),
         (
             "-8507059173023461586.5843651857942052864",
-            -85_070_591_730_234_615_865_843_651_857_942_052_864,
-            19,
+            Ok((-85_070_591_730_234_615_865_843_651_857_942_052_864, 19)),
         ),
+        ("", no_decimal),
+        (".", no_decimal),
+        ("+", no_decimal),
+        ("-", no_decimal),
+        ("-.", no_decimal),
+        ("+-1", no_decimal),
+        ("--1", no_decimal),
+        ("1e3", no_decimal),
+        ("1E3", no_decimal),
+        (" 1", no_decimal),
+        ("1 ", no_decimal),
+        ("1,0", no_decimal),
+        ("1.2.3", no_decimal),
+        ("1..2", no_decimal),
+        ("0x1", no_decimal),
+        ("INF", no_decimal),
+        ("NaN", no_decimal),
+        ("1-", no_decimal),
+        ("\u{661}", no_decimal),
+        ("1\u{662}", no_decimal),
+        ("\u{ff11}", no_decimal),
+        ("1\n", no_decimal),
+        ("100000000000000000000000000000000000000000000", wide),
+        ("0.00000000000000000000000000000000000001", wide),
+        ("85070591730234615865843651857942052865", wide),
+        ("-85070591730234615865843651857942052865", wide),
+        ("8507059173023461586.5843651857942052865", wide),
+        ("340282366920938463463374607431768211456", wide),
     ];
-    for (text, digits, places) in cases {
-        assert_eq!(rt; told(text), Ok((digits, places)), "{text}");
-    }
-    Ok(())
-}
-
-#[test]
-fn texts_that_are_no_decimals(rt: HostRuntime) -> Result<(), Fail> {
-    let cases = [
-        "", ".", "+", "-", "-.", "+-1", "--1", "1e3", "1E3", " 1", "1 ", "1,0", "1.2.3", "1..2",
-        "0x1", "INF", "NaN", "1-", "\u{661}", "1\u{662}", "\u{ff11}", "1\n",
-    ];
-    for text in cases {
-        assert_eq!(rt; told(text), Err(DecimalFault::NotDecimal), "{text}");
-    }
-    Ok(())
-}
-
-#[test]
-fn wide_texts(rt: HostRuntime) -> Result<(), Fail> {
-    let cases = [
-        "100000000000000000000000000000000000000000000",
-        "0.00000000000000000000000000000000000001",
-        "85070591730234615865843651857942052865",
-        "-85070591730234615865843651857942052865",
-        "8507059173023461586.5843651857942052865",
-        "340282366920938463463374607431768211456",
-    ];
-    for text in cases {
-        assert_eq!(rt; told(text), Err(DecimalFault::Wide), "{text}");
+    for (text, want) in cases {
+        assert_eq!(rt; told(text), want, "{text}");
     }
     Ok(())
 }
@@ -102,22 +101,6 @@ fn texts_of_a_million_digits(rt: HostRuntime) -> Result<(), Fail> {
 }
 
 #[test]
-fn decimals_are_fractions(rt: HostRuntime) -> Result<(), Fail> {
-    let cases = [
-        ("-0.50", (-1, 2)),
-        ("12.5", (25, 2)),
-        ("0", (0, 1)),
-        ("100", (100, 1)),
-    ];
-    for (text, want) in cases {
-        let decimal: Decimal = read_decimal(text).ok().ok_or("no decimal text")?;
-        let frac = decimal.to_frac();
-        assert_eq!(rt; (frac.num(), frac.den()), want, "{text}");
-    }
-    Ok(())
-}
-
-#[test]
 fn spellings_of_fractions(rt: HostRuntime) -> Result<(), Fail> {
     let most = i128::MAX;
     let cases = [
@@ -142,6 +125,20 @@ fn spellings_of_fractions(rt: HostRuntime) -> Result<(), Fail> {
         let want = format!(in rt.alloc(); "= {text}")?;
         assert_eq!(rt; out.as_slice(), want.as_bytes(), "{text}");
         assert_eq!(rt; read_frac(text.as_bytes()), Some(value), "{text}");
+    }
+    let decimals = [
+        ("-0.50", "-1/2"),
+        ("12.5", "25/2"),
+        ("0", "0"),
+        ("100", "100"),
+    ];
+    for (text, spelling) in decimals {
+        let decimal: Decimal = read_decimal(text).ok().ok_or("no decimal text")?;
+        assert_eq!(rt;
+            read_frac(spelling.as_bytes()),
+            Some(decimal.to_frac()),
+            "{text}"
+        );
     }
     Ok(())
 }

@@ -112,9 +112,9 @@ impl ReportFault {
         match self {
             ReportFault::Memory | ReportFault::NotJson => None,
             ReportFault::NotReport(part) => Some(part.name()),
-            ReportFault::BadName(id) | ReportFault::BadValue(id) | ReportFault::BadDecimals(id) => {
-                Some(id.as_str())
-            }
+            ReportFault::BadName(id) => Some(id.as_str()),
+            ReportFault::BadValue(id) => Some(id.as_str()),
+            ReportFault::BadDecimals(id) => Some(id.as_str()),
         }
     }
 }

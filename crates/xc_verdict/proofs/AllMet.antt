@@ -29,4 +29,4 @@ not_so P b tells no_ p = let yes : b ≡ true = tells.1 p in absurd (cc)
 
 -- what is answered by a test
 pub not_true : (b c : Bool) → b ≡ c → b ≡ false → ¬ IsTrue c
-not_true b c is no_ yes = let e : false ≡ true = sym no_ ∙ is ∙ yes in absurd (cc)
+not_true b c is no_ told = let e : false ≡ true = sym no_ ∙ is ∙ told in absurd (cc)

@@ -65,7 +65,7 @@ module _ (mode : Mode) (facts : List Fact) where
   if_wide (Some point) p is are wide = range_wide point point.range (are point refl) wide
 
   pub if_empty : (o : Option Point) → RangesAre o → IsEmptyRange (range_if o) → IsSomeAnd o (λ point. IsEmptyPoint mode facts point)
-  if_empty None are empty = absurd empty
+  if_empty None are empty = absurd (cc)
   if_empty (Some point) are empty = range_empty point point.range (are point refl) empty
 
   -- a number lies in a range exactly where all facts of the point admit it

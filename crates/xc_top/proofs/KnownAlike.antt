@@ -11,7 +11,7 @@ use Rattle.xc_names.specs.declared.expanded.Expanded.{Expanded}
 use Rattle.xc_names.specs.declared.expanded.NameId.{NameId}
 use Rattle.xc_names.specs.declared.wanted.Wanted.{Wanted}
 use Rattle.xc_report.specs.Wanted.{known_of, is_listed, listed}
-use Rattle.xc_top.proofs.RenamedNames.{IsOneName, same_elsewhere}
+use Rattle.xc_top.proofs.RenamedNames.{IsOneName}
 use Rattle.xc_report.specs.Renamed.{renamed_id, IsKnownAs}
 use Rattle.xc_top.proofs.Renaming.{IsRenaming}
 
@@ -43,13 +43,13 @@ module _ (f : ℕ → ℕ) (one other : List Expanded) (is : IsRenaming one othe
     not_shared space local a e none h =
         let found = alike.shared a h in
         let name = found.1 in
-        none-some found.0 (sym none ∙ same_elsewhere one other space local name.space name.local a e name.first ∙ name.second)
+        none-some found.0 (sym none ∙ is.there space local name.space name.local a e name.first ∙ name.second)
 
     not_shared_back : (space local : List ℕ) (b : ℕ) → number_of space local one ≡ None → number_of space local other ≡ Some b → is_listed others b ≡ true → ⊥
     not_shared_back space local b none e h =
         let found = alike.shared_back b h in
         let name = found.1 in
-        none-some found.0 (sym none ∙ same_elsewhere other one space local name.space name.local b e name.second ∙ name.first)
+        none-some found.0 (sym none ∙ is.back space local name.space name.local b e name.second ∙ name.first)
 
     chosen : (a : ℕ) (t : Bool) → (if t then Some (name_id (f a)) else None) ≡ option_map (renamed_id f) (if t then Some (name_id a) else None)
     chosen a true = refl

@@ -6,9 +6,10 @@ use Rattle.std.specs.Prelude.{IsErrAnd, codes}
 use Rattle.xc_io.specs.Faults.{Rose, next_count}
 use Rattle.xc_io.specs.Shelf.{Files, IsLonger}
 use Rattle.xc_top.specs.Answer.{IsCommandAnswer}
-use Rattle.xc_top.specs.Answers.{IfNamed, IfStopped, refused, unread}
+use Rattle.xc_top.specs.Answers.{refused, unread}
+use Rattle.xc_top.specs.Steps.Stops.{IfNamed, IfStopped, IsEnding, IsSettled}
 use Rattle.xc_top.specs.Documents.{limit, unfetched, unfetched_of, first_unfetched}
-use Rattle.xc_top.specs.Run.{IsEnding, IsReadFaultOf, IsSettled, LacksFile}
+use Rattle.xc_top.specs.Run.{IsReadFaultOf, LacksFile}
 use Rattle.xc_top.specs.Steps.Fetches.{Leaves, IsFailed, IsTold, IsUnfetched, IsOver}
 use Rattle.xc_top.specs.Words.{CommandWords, file_words}
 use Rattle.xc_top.specs.declared.status.Answer.{Answer}

@@ -6,6 +6,7 @@ use Rattle.xc_calc.specs.declared.arc.Network.{Network}
 use Rattle.xc_lists.specs.Places.{first_given}
 use Rattle.xc_elements.specs.DocumentTrees.{OneTree, TreeOrFault, OneFirstFault}
 use Rattle.xc_io.specs.Shelf.{Files}
+use Rattle.xc_names.specs.Laws.{NumbersTellNames, NamesStandAtNumbers}
 use Rattle.xc_names.specs.declared.expanded.Expanded.{Expanded}
 use Rattle.xc_names.specs.declared.wanted.Wanted.{Wanted}
 use Rattle.xc_points.specs.Laws.{HasOneRange}
@@ -74,6 +75,8 @@ same_bytes a b o e f = let same : Some a ≡ Some b = sym e ∙ f in cc
 
 -- the laws of the crates below
 pub record Below : Type 0 where
+  pub tell : NumbersTellNames
+  pub stand : NamesStandAtNumbers
   pub networks : calc.HasOneAnswer
   pub stated : StatedIsRenamed
   pub facts : ReportIsRenamed
@@ -116,12 +119,12 @@ module _ (below : Below) (documents_are_one : DocumentsAreOne) where
   one_opened check names other_names networks other_networks wanted other_wanted renamed (Err fault) one other h k = same_some one other (report_refusal check.report fault) h k
 
   one_over : (check : CheckWords) (report : List ℕ) (documents : List Document) (one other : Answer) → IsDocumentsAnswer check report documents one → IsDocumentsAnswer check report documents other → one ≡ other
-  one_over check report documents one other (inl h) (inl k) = one_refusal check.kind documents one other h k
+  one_over check report documents one other (inl h) (inl k) = one_refusal below.tell below.stand check.kind documents one other h k
   one_over check report documents one other (inl h) (inr k) = absurd (refused_or_read check.kind documents one k.names k.networks k.wanted h k.taxonomy)
   one_over check report documents one other (inr h) (inl k) = absurd (refused_or_read check.kind documents other h.names h.networks h.wanted k h.taxonomy)
   one_over check report documents one other (inr h) (inr k) =
       one_opened check h.names k.names h.networks k.networks h.wanted k.wanted
-      (one_taxonomy below.networks check.kind documents h.names h.networks h.wanted k.names k.networks k.wanted h.taxonomy k.taxonomy)
+      (one_taxonomy below.tell below.stand below.networks check.kind documents h.names h.networks h.wanted k.names k.networks k.wanted h.taxonomy k.taxonomy)
       (opened report) one other h.answered k.answered
 
   one_check : (check : CheckWords) (files : Files) (one other : Answer) → IsCheckAnswer check files one → IsCheckAnswer check files other → one ≡ other
@@ -136,7 +139,7 @@ module _ (below : Below) (documents_are_one : DocumentsAreOne) where
   one_numbered : (sum : SumWords) (report : Opened) (one other : Answer) → IsNumberedAnswer sum report one → IsNumberedAnswer sum report other → one ≡ other
   one_numbered sum report one other h k =
       one_facts (sum_asked sum) h.names k.names (sum_network h.total (zip sum.terms h.terms) ∷ []) (sum_network k.total (zip sum.terms k.terms) ∷ []) h.wanted k.wanted
-      (one_sum report.prefixes h.names k.names sum h.total k.total h.terms k.terms h.wanted k.wanted h.numbers k.numbers)
+      (one_sum below.tell below.stand report.prefixes h.names k.names sum h.total k.total h.terms k.terms h.wanted k.wanted h.numbers k.numbers)
       report one other h.answered k.answered
 
   one_report : (sum : SumWords) (report : Result Opened ReportFault) (one other : Answer) → IsReportAnswer sum report one → IsReportAnswer sum report other → one ≡ other

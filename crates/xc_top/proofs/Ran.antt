@@ -8,7 +8,8 @@ use Rattle.xc_lines.specs.Lines.{usage_line}
 use Rattle.xc_top.specs.Answer.{IsAnswer, IsCommandAnswer}
 use Rattle.xc_top.specs.Answers.{make_answer, unread, refused}
 use Rattle.xc_top.specs.Documents.{limit, unfetched_of, first_unfetched}
-use Rattle.xc_top.specs.Run.{IsAnswered, IsEnding, IsReadFaultOf, IsReadFaultLine, IsTooLong, AreHeldUpTo, HasFiles, IsUnrefused, IsJudged, LacksFile}
+use Rattle.xc_top.specs.Run.{IsAnswered, IsReadFaultOf, IsReadFaultLine, IsTooLong, AreHeldUpTo, HasFiles, IsUnrefused, IsJudged, LacksFile}
+use Rattle.xc_top.specs.Steps.Stops.{IsEnding}
 use Rattle.xc_top.proofs.Leaving.{lacks_file}
 use Rattle.xc_top.specs.Words.{CommandWords, file_words, files_named, words_of}
 use Rattle.xc_top.specs.declared.status.Answer.{Answer}

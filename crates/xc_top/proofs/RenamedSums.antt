@@ -3,6 +3,7 @@ use Rattle.std.proofs.Common.{◌≡◌, ◌==◌, ◌||◌, ℕ, List, [], ◌�
 use Rattle.std.proofs.lemmas.Option.{none-some}
 use Rattle.std.specs.FinMap.{get}
 use Rattle.std.specs.List.{zip}
+use Rattle.xc_names.specs.Laws.{NumbersTellNames, NamesStandAtNumbers}
 use Rattle.xc_names.specs.Names.{number_of}
 use Rattle.xc_chars.specs.PlainNames.{split}
 use Rattle.xc_names.specs.Prefixes.{Bindings}
@@ -125,13 +126,13 @@ module _ (f : ℕ → ℕ) (total : NameId) where
   network_exchanged terms ids = λ i. record { role = (sum_network total (zip terms ids)).role; arcs = arcs_exchanged terms ids i }
 
 -- the words of `sum` have one numbering but for the numbers themselves
-pub one_sum : (prefixes : Bindings) (names other_names : List Expanded) (sum : SumWords) (total other_total : NameId) (terms other_terms : List NameId) (wanted other_wanted : Wanted)
+pub one_sum : NumbersTellNames → NamesStandAtNumbers → (prefixes : Bindings) (names other_names : List Expanded) (sum : SumWords) (total other_total : NameId) (terms other_terms : List NameId) (wanted other_wanted : Wanted)
     → AreSumNumbers prefixes names sum total terms wanted
     → AreSumNumbers prefixes other_names sum other_total other_terms other_wanted
     → IsRenamed names (sum_network total (zip sum.terms terms) ∷ []) wanted other_names (sum_network other_total (zip sum.terms other_terms) ∷ []) other_wanted
-one_sum prefixes names other_names sum total other_total terms other_terms wanted other_wanted these those =
-    let f = (renaming names other_names).0 in
-    let is : IsRenaming names other_names f = (renaming names other_names).1 in
+one_sum tell stand prefixes names other_names sum total other_total terms other_terms wanted other_wanted these those =
+    let f = (renaming tell stand names other_names).0 in
+    let is : IsRenaming names other_names f = (renaming tell stand names other_names).1 in
     let total_named = text_named prefixes names other_names sum.total total.0 other_total.0 these.total_is those.total_is in
     let terms_named = texts_named prefixes names other_names sum.terms terms other_terms these.terms_are those.terms_are in
     let total_renamed = id_renamed prefixes names other_names f is total other_total total_named in

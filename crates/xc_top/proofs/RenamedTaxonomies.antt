@@ -13,6 +13,7 @@ use Rattle.xc_concepts.specs.Declarations.{concepts_in}
 use Rattle.xc_concepts.specs.Held.{IsHeld, AreHeld, is_typed_as, AreTyped}
 use Rattle.xc_concepts.specs.declared.schema.Concept.{Concept}
 use Rattle.xc_concepts.specs.declared.schema.Schema.{Schema}
+use Rattle.xc_names.specs.Laws.{NumbersTellNames, NamesStandAtNumbers}
 use Rattle.xc_names.specs.declared.expanded.Expanded.{Expanded}
 use Rattle.xc_names.specs.declared.expanded.NameId.{NameId}
 use Rattle.xc_names.specs.declared.wanted.Wanted.{Wanted}
@@ -137,13 +138,13 @@ module _ (f : ℕ → ℕ) (names other_names : List Expanded) (is : IsRenaming 
       (subst (λ ss. IsTaxonomy ss (arcs_of kind ss parts) other_networks other_wanted) e those))
 
 -- a taxonomy has one reading but for numbers
-pub one_taxonomy : HasOneAnswer → (kind : ArcKind) (documents : List Document) (names : List Expanded) (networks : List Network) (wanted : Wanted) (other_names : List Expanded) (other_networks : List Network) (other_wanted : Wanted)
+pub one_taxonomy : NumbersTellNames → NamesStandAtNumbers → HasOneAnswer → (kind : ArcKind) (documents : List Document) (names : List Expanded) (networks : List Network) (wanted : Wanted) (other_names : List Expanded) (other_networks : List Network) (other_wanted : Wanted)
     → IsTaxonomyOf kind documents names networks wanted
     → IsTaxonomyOf kind documents other_names other_networks other_wanted
     → IsRenamed names networks wanted other_names other_networks other_wanted
-one_taxonomy one_answer kind documents names networks wanted other_names other_networks other_wanted these those =
-    let f = (renaming names other_names).0 in
-    let is : IsRenaming names other_names f = (renaming names other_names).1 in
+one_taxonomy tell stand one_answer kind documents names networks wanted other_names other_networks other_wanted these those =
+    let f = (renaming tell stand names other_names).0 in
+    let is : IsRenaming names other_names f = (renaming tell stand names other_names).1 in
     let same = schemas_renamed f names other_names is (schemas_in documents) these.schemas those.schemas these.declared those.declared these.held those.held in
     same_taxonomy f names other_names is kind (linkbases_in documents) these.schemas these.held (subst (λ ss. AreHeld ss other_names) same those.held)
     one_answer those.schemas networks other_networks wanted other_wanted same these.says those.says
@@ -151,26 +152,26 @@ one_taxonomy one_answer kind documents names networks wanted other_names other_n
 -- ---- one refusal
 
 -- the first rule that a linkbase breaks does not depend on the numbers of concepts
-same_link_fault : (kind : ArcKind) (documents : List Document) (names other_names : List Expanded) (one other : List Schema)
+same_link_fault : NumbersTellNames → NamesStandAtNumbers → (kind : ArcKind) (documents : List Document) (names other_names : List Expanded) (one other : List Schema)
     → AreSchemasOf (schemas_in documents) one → AreSchemasOf (schemas_in documents) other → AreHeld one names → AreHeld other other_names
     → first_link_broken kind other (linkbases_in documents) ≡ first_link_broken kind one (linkbases_in documents)
-same_link_fault kind documents names other_names one other declared other_declared held other_held =
-    let f = (renaming names other_names).0 in
-    let is : IsRenaming names other_names f = (renaming names other_names).1 in
+same_link_fault tell stand kind documents names other_names one other declared other_declared held other_held =
+    let f = (renaming tell stand names other_names).0 in
+    let is : IsRenaming names other_names f = (renaming tell stand names other_names).1 in
     ap (λ ss. first_link_broken kind ss (linkbases_in documents)) (schemas_renamed f names other_names is (schemas_in documents) one other declared other_declared held other_held)
     ∙ link_broken_alike f is.injective kind one (linkbases_in documents)
 
 -- documents that make no taxonomy have one refusal
-pub one_refusal : (kind : ArcKind) (documents : List Document) (one other : Answer) → IsTaxonomyRefusal kind documents one → IsTaxonomyRefusal kind documents other → one ≡ other
-one_refusal kind documents one other (inl e) (inl g) = same_Some one other (sym e ∙ g)
-one_refusal kind documents one other (inl e) (inr (inl s)) = absurd (none-some one (sym s.read ∙ e))
-one_refusal kind documents one other (inl e) (inr (inr l)) = absurd (none-some one (sym l.read ∙ e))
-one_refusal kind documents one other (inr (inl s)) (inl g) = absurd (none-some other (sym s.read ∙ g))
-one_refusal kind documents one other (inr (inl s)) (inr (inl t)) = same_Some one other (sym s.broken ∙ sym (broken_alike (schemas_in documents) s.schemas t.schemas s.declared t.declared) ∙ t.broken)
-one_refusal kind documents one other (inr (inl s)) (inr (inr l)) = absurd (none-some one (sym l.sound ∙ broken_alike (schemas_in documents) s.schemas l.schemas s.declared l.declared ∙ s.broken))
-one_refusal kind documents one other (inr (inr l)) (inl g) = absurd (none-some other (sym l.read ∙ g))
-one_refusal kind documents one other (inr (inr l)) (inr (inl s)) = absurd (none-some other (sym l.sound ∙ broken_alike (schemas_in documents) s.schemas l.schemas s.declared l.declared ∙ s.broken))
-one_refusal kind documents one other (inr (inr l)) (inr (inr m)) = same_Some one other (sym l.broken ∙ sym (same_link_fault kind documents l.names m.names l.schemas m.schemas l.declared m.declared l.held m.held) ∙ m.broken)
+pub one_refusal : NumbersTellNames → NamesStandAtNumbers → (kind : ArcKind) (documents : List Document) (one other : Answer) → IsTaxonomyRefusal kind documents one → IsTaxonomyRefusal kind documents other → one ≡ other
+one_refusal tell stand kind documents one other (inl e) (inl g) = same_Some one other (sym e ∙ g)
+one_refusal tell stand kind documents one other (inl e) (inr (inl s)) = absurd (none-some one (sym s.read ∙ e))
+one_refusal tell stand kind documents one other (inl e) (inr (inr l)) = absurd (none-some one (sym l.read ∙ e))
+one_refusal tell stand kind documents one other (inr (inl s)) (inl g) = absurd (none-some other (sym s.read ∙ g))
+one_refusal tell stand kind documents one other (inr (inl s)) (inr (inl t)) = same_Some one other (sym s.broken ∙ sym (broken_alike (schemas_in documents) s.schemas t.schemas s.declared t.declared) ∙ t.broken)
+one_refusal tell stand kind documents one other (inr (inl s)) (inr (inr l)) = absurd (none-some one (sym l.sound ∙ broken_alike (schemas_in documents) s.schemas l.schemas s.declared l.declared ∙ s.broken))
+one_refusal tell stand kind documents one other (inr (inr l)) (inl g) = absurd (none-some other (sym l.read ∙ g))
+one_refusal tell stand kind documents one other (inr (inr l)) (inr (inl s)) = absurd (none-some other (sym l.sound ∙ broken_alike (schemas_in documents) s.schemas l.schemas s.declared l.declared ∙ s.broken))
+one_refusal tell stand kind documents one other (inr (inr l)) (inr (inr m)) = same_Some one other (sym l.broken ∙ sym (same_link_fault tell stand kind documents l.names m.names l.schemas m.schemas l.declared m.declared l.held m.held) ∙ m.broken)
 
 -- documents that make a taxonomy have no refusal
 pub refused_or_read : (kind : ArcKind) (documents : List Document) (answer : Answer) (names : List Expanded) (networks : List Network) (wanted : Wanted)

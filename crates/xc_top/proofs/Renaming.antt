@@ -22,10 +22,16 @@ IsInjective f = (a b : ℕ) → f a ≡ f b → a ≡ b
 pub same_number : (f : ℕ → ℕ) → IsInjective f → (a b : ℕ) → (f a == f b) ≡ (a == b)
 same_number f injective a b = same_from_decides (f a == f b) (a == b) (Decides-like (f a == f b) (injective a b) (λ e. ap f e) (Decides-eqb (f a) (f b))) (Decides-eqb a b)
 
+-- names with one number in the one list have one number, or none, in the other
+abbrev pub AreOneElsewhere : List Expanded → List Expanded → Type 0
+AreOneElsewhere one other = (space local other_space other_local : List ℕ) (a : ℕ) → number_of space local one ≡ Some a → number_of other_space other_local one ≡ Some a → number_of space local other ≡ number_of other_space other_local other
+
 -- a name that has a number in both lists has the second where its first was
 pub record IsRenaming (one other : List Expanded) (f : ℕ → ℕ) : Type 0 where
   pub injective : IsInjective f
   pub carries : (space local : List ℕ) (a b : ℕ) → number_of space local one ≡ Some a → number_of space local other ≡ Some b → f a ≡ b
+  pub there : AreOneElsewhere one other
+  pub back : AreOneElsewhere other one
 
 module _ (f : ℕ → ℕ) where
   abbrev pub renamed_concept : Concept → Concept

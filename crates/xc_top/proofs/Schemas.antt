@@ -7,7 +7,7 @@ use Rattle.xc_concepts.specs.Declarations.{IsSchemaOf, declared_in, named_types_
 use Rattle.xc_concepts.specs.declared.schema.Concept.{Concept}
 use Rattle.xc_concepts.specs.declared.schema.Declared.{Declared}
 use Rattle.xc_concepts.specs.declared.schema.Schema.{Schema}
-use Rattle.xc_top.specs.Added.{IsAdded, broken_beside}
+use Rattle.xc_top.specs.Steps.Added.{IsAdded, broken_beside}
 use Rattle.xc_top.specs.Taxonomies.{Part, AreSchemasOf, schema_broken, first_schema_broken}
 use Rattle.xc_top.specs.declared.status.Answer.{Answer}
 

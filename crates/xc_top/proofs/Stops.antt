@@ -1,6 +1,6 @@
 -- Steps from what one thing has to what another has.
 use Rattle.std.proofs.Common.{Option, Some, None, IfSome}
-use Rattle.xc_top.specs.Answers.{IfNamed}
+use Rattle.xc_top.specs.Steps.Stops.{IfNamed}
 use Rattle.xc_top.specs.declared.status.Answer.{Answer}
 use Rattle.xc_top.specs.declared.status.Stop.{Stop}
 use Rattle.xc_top.specs.declared.status.Stop.TheVariants as stop

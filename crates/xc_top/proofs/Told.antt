@@ -4,10 +4,9 @@ use Rattle.std.specs.Option.{option_or}
 use Rattle.xc_io.specs.Shelf.{Files}
 use Rattle.xc_report.specs.Opened.{opened}
 use Rattle.xc_top.specs.Answer.{IsCommandAnswer}
-use Rattle.xc_top.specs.Answers.{Answers, IsAnswerIn}
+use Rattle.xc_top.specs.Steps.Stops.{Answers, IsAnswerIn, IsSettled, IsEnding}
 use Rattle.xc_top.specs.Checks.{IsDocumentsAnswer}
 use Rattle.xc_top.specs.Documents.{unfetched, first_unfetched, AreDocumentsOf}
-use Rattle.xc_top.specs.Run.{IsSettled, IsEnding}
 use Rattle.xc_top.specs.Sums.{IsReportAnswer}
 use Rattle.xc_top.specs.Words.{SumWords, CheckWords, SumOf, CheckOf}
 use Rattle.xc_top.specs.declared.documents.Document.{Document}

@@ -1,15 +1,12 @@
-pub mod Added
 pub mod Answer
 pub mod Answers
 pub mod Checks
 pub mod Documents
 pub mod Judged
 pub mod Laws
-pub mod Named
 pub mod Run
 pub mod Status
 pub mod Steps
 pub mod Sums
 pub mod Taxonomies
-pub mod Views
 pub mod Words

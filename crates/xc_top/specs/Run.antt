@@ -22,28 +22,6 @@ IsAnswered ReadFault = ⊥
 IsAnswered WriteFault = ⊥
 IsAnswered Memory = ⊥
 
--- an answer to accepted words, or a fault of the shelf
-abbrev pub IsEnding : Status → Type 0
-IsEnding Sound = Unit {0}
-IsEnding Findings = Unit {0}
-IsEnding Refused = Unit {0}
-IsEnding TooWide = Unit {0}
-IsEnding ReadFault = Unit {0}
-IsEnding Usage = ⊥
-IsEnding WriteFault = ⊥
-IsEnding Memory = ⊥
-
--- an answer to accepted words
-abbrev pub IsSettled : Status → Type 0
-IsSettled Sound = Unit {0}
-IsSettled Findings = Unit {0}
-IsSettled Refused = Unit {0}
-IsSettled TooWide = Unit {0}
-IsSettled ReadFault = ⊥
-IsSettled Usage = ⊥
-IsSettled WriteFault = ⊥
-IsSettled Memory = ⊥
-
 -- a beginning of the text was written: where the sink has a known room, a proper one, as long as the room
 abbrev pub AppendsPart : Option ℕ → Option (List ℕ) → Option (List ℕ) → List ℕ → Type 0
 AppendsPart room old new text = AppendsPrefix old new text × ((n : ℕ) → room ≡ Some n → (n < length text) × Appends old new (take n text))

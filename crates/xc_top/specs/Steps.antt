@@ -1,1 +1,6 @@
+-- What describes private steps of the code: no clause of a public function cites these.
+pub mod Added
 pub mod Fetches
+pub mod Named
+pub mod Stops
+pub mod Views

@@ -1,8 +1,7 @@
 // What a command answers.
 ghost use Rattle.std.specs.Prelude.{◌≡◌, length, IfOk};
-ghost use Rattle.xc_top.specs.Answers.{Answers, IsAnswerIn};
-ghost use Rattle.xc_top.specs.Named.{named, named_sum, named_check};
-ghost use Rattle.xc_top.specs.Run.{IsEnding};
+ghost use Rattle.xc_top.specs.Steps.Stops.{Answers, IsAnswerIn, IsEnding};
+ghost use Rattle.xc_top.specs.Steps.Named.{named, named_sum, named_check};
 ghost use Rattle.xc_top.specs.Steps.Fetches.{IsOver, Leaves};
 ghost use Rattle.xc_top.specs.Words.{SumOf, CheckOf, file_words};
 

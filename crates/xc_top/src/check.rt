@@ -1,12 +1,11 @@
 // What `check` answers.
 ghost use Rattle.std.specs.Prelude.{◌≡◌, IfOk};
 ghost use Rattle.xc_report.specs.Opened.{opened};
-ghost use Rattle.xc_top.specs.Answers.{Answers, IfStopped};
+ghost use Rattle.xc_top.specs.Steps.Stops.{Answers, IfStopped, IsSettled};
 ghost use Rattle.xc_top.specs.Checks.{IsDocumentsAnswer, IsOpenedAnswer, check_asked};
-ghost use Rattle.xc_top.specs.Named.{named_check};
-ghost use Rattle.xc_top.specs.Run.{IsSettled};
+ghost use Rattle.xc_top.specs.Steps.Named.{named_check};
 ghost use Rattle.xc_top.specs.Taxonomies.{IsTaxonomyOf, IsTaxonomyRefusal};
-ghost use Rattle.xc_top.specs.Views.{asked};
+ghost use Rattle.xc_top.specs.Steps.Views.{asked};
 
 use crate::documents::Document;
 use crate::judged::{Question, answer_facts};

@@ -1,8 +1,7 @@
 // The files of a run, and the documents in them.
 ghost use Rattle.std.specs.Prelude.{◌≡◌, ◌≤◌, ◌∷◌, [], Some, None, length, IfOk, IfSome, OnOk};
-ghost use Rattle.xc_top.specs.Answers.{IfStopped};
+ghost use Rattle.xc_top.specs.Steps.Stops.{IfStopped, IsSettled};
 ghost use Rattle.xc_top.specs.Documents.{limit, AreFetched, IsContentOf, root_refusal, document_refusal, first_unread};
-ghost use Rattle.xc_top.specs.Run.{IsSettled};
 ghost use Rattle.xc_top.specs.Steps.Fetches.{IsUnfetched, Leaves};
 ghost use Rattle.xc_top.specs.Words.{texts};
 

@@ -1,10 +1,9 @@
 // What is answered of the facts of a report.
 ghost use Rattle.std.specs.Prelude.{◌≡◌, ◌<◌, ◌*◌, ◌+◌, ◌^◌, IfOk, length, false};
 ghost use Rattle.xc_report.specs.Drafts.{draft_view};
-ghost use Rattle.xc_top.specs.Answers.{Answers};
+ghost use Rattle.xc_top.specs.Steps.Stops.{Answers, IsSettled};
 ghost use Rattle.xc_top.specs.Judged.{IsFactsAnswer, IsCounted, IsFindings, are_too_many};
-ghost use Rattle.xc_top.specs.Run.{IsSettled};
-ghost use Rattle.xc_top.specs.Views.{asked};
+ghost use Rattle.xc_top.specs.Steps.Views.{asked};
 
 use crate::refusals::{refused, report_refusal};
 use crate::status::{Answer, Stop};

@@ -5,6 +5,7 @@ ghost use Rattle.xc_top.specs.Laws.{AnswersAreOne, DocumentsAreOne};
 
 use xc_calc::laws::networks_are_one;
 use xc_elements::laws::{one_first_fault, one_tree, tree_or_fault};
+use xc_names::laws::{names_stand_at_numbers, numbers_tell_names};
 use xc_points::laws::one_range;
 use xc_report::laws::numbers_are_free;
 use xc_verdict::laws::one_verdict;
@@ -24,6 +25,8 @@ pub fn answers_are_one()
     ensures { AnswersAreOne }
 {
     documents_are_one();
+    numbers_tell_names();
+    names_stand_at_numbers();
     networks_are_one();
     numbers_are_free();
     one_range();

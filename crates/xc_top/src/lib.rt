@@ -14,6 +14,7 @@ mod top;
 mod verdicts;
 mod words;
 
+pub use documents::{Content, Document};
 pub use status::{Answer, Status};
 pub use top::run;
 

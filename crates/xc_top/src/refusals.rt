@@ -1,8 +1,8 @@
 // What is answered where a document is refused or cannot be read.
-ghost use Rattle.std.specs.Prelude.{◌≡◌, Some, decimal, string_bytes};
+ghost use Rattle.std.specs.Prelude.{◌≡◌, Some, option_map, string_bytes};
 ghost use Rattle.xc_top.specs.declared.status.Stop.TheVariants as stop;
-ghost use Rattle.xc_top.specs.Run.{IsSettled};
-ghost use Rattle.xc_top.specs.Answers.{IfNamed, make_answer, unread, refused, refused_at, tree_refusal, schema_refusal, link_refusal, member_name, report_refusal};
+ghost use Rattle.xc_top.specs.Steps.Stops.{IsSettled, IfNamed};
+ghost use Rattle.xc_top.specs.Answers.{make_answer, unread, refused, refused_at, refusal, numbered_refusal, tree_refusal, schema_refusal, link_refusal, report_refusal};
 
 use crate::status::{Answer, Status, Stop};
 use std::alloc::Global;
@@ -11,7 +11,7 @@ use xc_concepts::SchemaFault;
 use xc_elements::TreeFault;
 use xc_lines::{placed_refusal_line, read_fault_line, refusal_line};
 use xc_lists::Items;
-use xc_report::{Member, ReportFault};
+use xc_report::ReportFault;
 
 // An answer with one line.
 fn stop_with(status: Status, line: String) -> Stop
@@ -55,13 +55,37 @@ pub fn refused_at(alloc: Global, word: &str, code: &str, place: &str) -> Stop
     }
 }
 
-// The same where the place is a number.
-fn refused_by(alloc: Global, word: &str, code: &str, place: u64) -> Stop
-    ensures answer { IfNamed result (λ answer. answer ≡ refused_at word.now code.now (decimal place)) }
+// A fault of a document by its code, with the place beside it, where it has one. A fault without a code is want of memory.
+fn refusal(alloc: Global, word: &str, code: Option<&'static str>, place: Option<&str>) -> Stop
+    ensures answer { IfNamed result (λ answer.
+        refusal word.now (option_map (λ code. code.now) code.entry) (option_map (λ place. place.now) place.entry) ≡ Some answer) }
     ensures status { IfNamed result (λ answer. IsSettled answer.status) }
 {
+    let Some(code) = code else {
+        return Stop::Memory;
+    };
+    match place {
+        Some(place) => refused_at(alloc, word, code, place),
+        None => refused(alloc, word, code),
+    }
+}
+
+// The same where the place is a number.
+fn numbered_refusal(
+    alloc: Global,
+    word: &str,
+    code: Option<&'static str>,
+    place: Option<u64>,
+) -> Stop
+    ensures answer { IfNamed result (λ answer.
+        numbered_refusal word.now (option_map (λ code. code.now) code.entry) place ≡ Some answer) }
+    ensures status { IfNamed result (λ answer. IsSettled answer.status) }
+{
+    let Some(place) = place else {
+        return refusal(alloc, word, code, None);
+    };
     match place.to_string(alloc) {
-        Ok(place) => refused_at(alloc, word, code, place.as_str()),
+        Ok(place) => refusal(alloc, word, code, Some(place.as_str())),
         Err(_) => Stop::Memory,
     }
 }
@@ -71,16 +95,7 @@ pub fn tree_refusal(alloc: Global, word: &str, fault: TreeFault) -> Stop
     ensures answer { IfNamed result (λ answer. tree_refusal word.now fault ≡ Some answer) }
     ensures status { IfNamed result (λ answer. IsSettled answer.status) }
 {
-    match fault {
-        TreeFault::Memory => Stop::Memory,
-        TreeFault::NotUtf8(place) => refused_by(alloc, word, "xc:notUtf8", place),
-        TreeFault::NotItem(place) => refused_by(alloc, word, "xc:notItem", place),
-        TreeFault::Doctype(place) => refused_by(alloc, word, "xc:doctype", place),
-        TreeFault::Unbalanced(place) => refused_by(alloc, word, "xc:unbalanced", place),
-        TreeFault::TooDeep(place) => refused_by(alloc, word, "xc:tooDeep", place),
-        TreeFault::NoSpace(place) => refused_by(alloc, word, "xc:noSpace", place),
-        TreeFault::SameAttribute(place) => refused_by(alloc, word, "xc:sameAttribute", place),
-    }
+    numbered_refusal(alloc, word, fault.code(), fault.place())
 }
 
 /// A schema that breaks a rule.
@@ -88,13 +103,7 @@ pub fn schema_refusal(alloc: Global, word: &str, fault: SchemaFault) -> Stop
     ensures answer { IfNamed result (λ answer. schema_refusal word.now fault ≡ Some answer) }
     ensures status { IfNamed result (λ answer. IsSettled answer.status) }
 {
-    match fault {
-        SchemaFault::Memory => Stop::Memory,
-        SchemaFault::SameFile => refused(alloc, word, "xc:sameFile"),
-        SchemaFault::BadPrefix(node) => refused_by(alloc, word, "xc:badPrefix", node as u64),
-        SchemaFault::SameId(node) => refused_by(alloc, word, "xc:sameId", node as u64),
-        SchemaFault::SameConcept(node) => refused_by(alloc, word, "xc:sameConcept", node as u64),
-    }
+    numbered_refusal(alloc, word, fault.code(), node_place(fault.place()))
 }
 
 /// A linkbase that breaks a rule.
@@ -102,31 +111,15 @@ pub fn link_refusal(alloc: Global, word: &str, fault: LinkFault) -> Stop
     ensures answer { IfNamed result (λ answer. link_refusal word.now fault ≡ Some answer) }
     ensures status { IfNamed result (λ answer. IsSettled answer.status) }
 {
-    match fault {
-        LinkFault::Memory => Stop::Memory,
-        LinkFault::BadWeight(node) => refused_by(alloc, word, "xc:badWeight", node as u64),
-        LinkFault::ZeroWeight(node) => refused_by(alloc, word, "xc:zeroWeight", node as u64),
-        LinkFault::BadOrder(node) => refused_by(alloc, word, "xc:badOrder", node as u64),
-        LinkFault::BadPriority(node) => refused_by(alloc, word, "xc:badPriority", node as u64),
-        LinkFault::BadUse(node) => refused_by(alloc, word, "xc:badUse", node as u64),
-        LinkFault::NoLocator(node) => refused_by(alloc, word, "xc:noLocator", node as u64),
-        LinkFault::Unresolved(node) => refused_by(alloc, word, "xc:unresolved", node as u64),
-        LinkFault::UnknownType(node) => refused_by(alloc, word, "xc:unknownType", node as u64),
-        LinkFault::NodeNotDecimal(node) => {
-            refused_by(alloc, word, "xc:nodeNotDecimal", node as u64)
-        }
-    }
+    numbered_refusal(alloc, word, fault.code(), node_place(fault.place()))
 }
 
-fn member_name(part: Member) -> &'static str
-    ensures { result.now ≡ member_name part }
+fn node_place(node: Option<u32>) -> Option<u64>
+    ensures { result ≡ node }
 {
-    match part {
-        Member::Root => "root",
-        Member::DocumentInfo => "documentInfo",
-        Member::DocumentType => "documentType",
-        Member::Namespaces => "namespaces",
-        Member::Facts => "facts",
+    match node {
+        Some(node) => Some(node as u64),
+        None => None,
     }
 }
 
@@ -135,14 +128,5 @@ pub fn report_refusal(alloc: Global, word: &str, fault: &ReportFault) -> Stop
     ensures answer { IfNamed result (λ answer. report_refusal word.now fault.now ≡ Some answer) }
     ensures status { IfNamed result (λ answer. IsSettled answer.status) }
 {
-    match fault {
-        ReportFault::Memory => Stop::Memory,
-        ReportFault::NotJson => refused(alloc, word, "xc:notJson"),
-        ReportFault::NotReport(part) => {
-            refused_at(alloc, word, "xc:notReport", member_name(*part))
-        }
-        ReportFault::BadName(id) => refused_at(alloc, word, "xc:badName", id.as_str()),
-        ReportFault::BadValue(id) => refused_at(alloc, word, "xc:badValue", id.as_str()),
-        ReportFault::BadDecimals(id) => refused_at(alloc, word, "xc:badDecimals", id.as_str()),
-    }
+    refusal(alloc, word, fault.code(), fault.place())
 }

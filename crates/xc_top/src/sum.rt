@@ -6,11 +6,10 @@ ghost use Rattle.xc_lists.specs.Places.{first_given};
 ghost use Rattle.xc_names.specs.Names.{KeepsNumbers};
 ghost use Rattle.xc_report.specs.Drafts.{draft_view};
 ghost use Rattle.xc_report.specs.Opened.{opened};
-ghost use Rattle.xc_top.specs.Answers.{Answers, IfStopped};
-ghost use Rattle.xc_top.specs.Named.{named_sum};
-ghost use Rattle.xc_top.specs.Run.{IsSettled};
+ghost use Rattle.xc_top.specs.Steps.Stops.{Answers, IfStopped, IsSettled};
+ghost use Rattle.xc_top.specs.Steps.Named.{named_sum};
 ghost use Rattle.xc_top.specs.Sums.{IsReportAnswer, AreNodesOf, is_number_of, AreSumNumbers, sum_asked, sum_network, arc_to, weight_of, named_words, unbound, number_in};
-ghost use Rattle.xc_top.specs.Views.{asked};
+ghost use Rattle.xc_top.specs.Steps.Views.{asked};
 ghost use Rattle.xc_top.specs.Words.{texts, name_of};
 
 use crate::judged::{Question, answer_facts};

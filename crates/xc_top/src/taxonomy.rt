@@ -3,9 +3,8 @@ ghost use Rattle.std.specs.Prelude.{◌≡◌, [], List, None, Some, option_map,
 ghost use Rattle.xc_calc.specs.Linked.{with_arcs};
 ghost use Rattle.xc_concepts.specs.Held.{AreHeld};
 ghost use Rattle.xc_concepts.specs.declared.schema.Schema.{Schema};
-ghost use Rattle.xc_top.specs.Answers.{IfStopped};
-ghost use Rattle.xc_top.specs.Added.{IsAdded, broken_beside};
-ghost use Rattle.xc_top.specs.Run.{IsSettled};
+ghost use Rattle.xc_top.specs.Steps.Stops.{IfStopped, IsSettled};
+ghost use Rattle.xc_top.specs.Steps.Added.{IsAdded, broken_beside};
 ghost use Rattle.xc_top.specs.Taxonomies.{AreSchemasOf, IsTaxonomyOf, IsTaxonomyRefusal, schemas_in, linkbases_in, schema_in, linkbase_in, schema_broken, link_broken, first_schema_broken, first_link_broken, arcs_of, part_of};
 
 use crate::documents::{Content, Document, are_taxonomies};

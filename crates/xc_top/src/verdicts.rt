@@ -3,7 +3,6 @@ ghost use Rattle.std.specs.Prelude.{◌≡◌, ◌||◌, ℕ, List, IfOk, All, l
 ghost use Rattle.std.specs.List.{list_any};
 ghost use Rattle.xc_bind.specs.Placed.{IsPlaced};
 ghost use Rattle.xc_interval.specs.declared.mode.Mode.{Mode};
-ghost use Rattle.xc_interval.specs.Ranges.{is_empty_range};
 ghost use Rattle.xc_points.specs.Gathered.{ArePoints};
 ghost use Rattle.xc_report.specs.declared.reports.Fact.{Fact};
 ghost use Rattle.xc_top.specs.Judged.{AreVerdicts, status_of, has_finding, is_inconsistent, is_empty_point, is_too_wide};
@@ -11,7 +10,6 @@ ghost use Rattle.xc_top.specs.Judged.{AreVerdicts, status_of, has_finding, is_in
 use crate::Status;
 use std::alloc::Global;
 use xc_bind::{Binding, Verdict};
-use xc_interval::Range;
 use xc_lists::Memory;
 use xc_points::{Point, Points};
 use xc_verdict::verdict;
@@ -87,14 +85,5 @@ fn is_too_wide(verdict: Verdict) -> bool
 fn any_empty(points: &[Point]) -> bool
     ensures { result ≡ list_any is_empty_point points.now }
 {
-    points.iter().any(|point| is_empty(&point.range))
-}
-
-fn is_empty(range: &Range) -> bool
-    ensures { result ≡ is_empty_range range.now }
-{
-    match range {
-        Range::Empty => true,
-        Range::Meets(_) | Range::Wide => false,
-    }
+    points.iter().any(|point| point.range.is_empty())
 }

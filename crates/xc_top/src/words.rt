@@ -1,6 +1,6 @@
 // The words of a command line.
 ghost use Rattle.std.specs.Prelude.{◌≡◌, option_map, string_bytes, map};
-ghost use Rattle.xc_top.specs.Named.{named, named_check, named_sum};
+ghost use Rattle.xc_top.specs.Steps.Named.{named, named_check, named_sum};
 ghost use Rattle.xc_top.specs.Words.{SumOf, CheckOf, words_of, sum_of, check_of, check_of_kind, texts, mode_of, is_file_word, are_file_words, is_name_word, is_signed, is_term_word, is_sum, are_terms, name_of, is_negative};
 
 use xc_calc::ArcKind;

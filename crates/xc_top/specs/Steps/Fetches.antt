@@ -4,7 +4,8 @@ use Rattle.xc_io.specs.Faults.{Rose}
 use Rattle.xc_io.specs.Shelf.{Files}
 use Rattle.xc_top.specs.Answer.{IsCommandAnswer}
 use Rattle.xc_top.specs.Documents.{first_unfetched}
-use Rattle.xc_top.specs.Run.{IsReadFaultOf, IsSettled}
+use Rattle.xc_top.specs.Run.{IsReadFaultOf}
+use Rattle.xc_top.specs.Steps.Stops.{IsSettled}
 use Rattle.xc_top.specs.Words.{CommandWords, file_words}
 use Rattle.xc_top.specs.declared.status.Answer.{Answer}
 use Rattle.xc_top.specs.declared.status.Status.TheVariants.{ReadFault}

@@ -5,6 +5,8 @@ use Rattle.xc_top.proofs.laws.answers_are_one.Goals as goal
 pub returns : goal.returns
 returns c = λ words files one other h k.
     let below : Below = record {
+      tell = c.numbers_tell_names.ensures;
+      stand = c.names_stand_at_numbers.ensures;
       networks = c.networks_are_one.ensures;
       stated = c.numbers_are_free.ensures.stated;
       facts = c.numbers_are_free.ensures.facts;

@@ -1,7 +1,7 @@
 use Rattle.std.proofs.Common.{inr}
 use Rattle.xc_report.specs.Drafts.{draft_view}
-use Rattle.xc_top.specs.Named.{named_sum}
-use Rattle.xc_top.specs.Views.{asked}
+use Rattle.xc_top.specs.Steps.Named.{named_sum}
+use Rattle.xc_top.specs.Steps.Views.{asked}
 use Rattle.xc_top.proofs.Numbering.{numbered_answer}
 use Rattle.xc_top.proofs.Told.{if_answers}
 use Rattle.xc_top.proofs.sum.answer_draft.Goals as goal

@@ -1,7 +1,7 @@
 use Rattle.std.proofs.Common.{◌≡◌, ◌+◌, [], List, Some, Err, drop, ap, sym, subst, arith, rules}
 use Rattle.std.proofs.lemmas.Grind.{common_steps}
 use Rattle.xc_concepts.specs.declared.schema.Schema.{Schema}
-use Rattle.xc_top.specs.Answers.{IfStopped}
+use Rattle.xc_top.specs.Steps.Stops.{IfStopped}
 use Rattle.xc_top.specs.Taxonomies.{AreSchemasOf, schemas_in, schema_in, first_schema_broken}
 use Rattle.xc_top.proofs.Parts.{next_part}
 use Rattle.xc_top.proofs.Schemas.{added_all, added_sound, added_document, added_document_not}

@@ -2,7 +2,7 @@ use Rattle.std.proofs.Common.{◌≡◌, rules, inl, inr, subst, sym, ◌∙◌}
 use Rattle.std.specs.Io.KnownBytes.{Appends}
 use Rattle.xc_lines.specs.Lines.{usage_line}
 use Rattle.xc_top.specs.Answers.{make_answer}
-use Rattle.xc_top.specs.Named.{named}
+use Rattle.xc_top.specs.Steps.Named.{named}
 use Rattle.xc_top.specs.Run.{AppendsPart, IsJudged}
 use Rattle.xc_top.specs.declared.status.Status.TheVariants as status
 use Rattle.xc_top.proofs.Leaving.{over_failed, over_told}

@@ -13,7 +13,8 @@ use Rattle.std.specs.declared.cmp.Ordering.TheVariants.{Less, Equal, Greater}
 use Rattle.xc_bind.proofs.InOrder.{ascend_so}
 use Rattle.xc_bind.proofs.Judging.{ComesFrom, comes_from, bindings_ascend}
 use Rattle.xc_bind.specs.Bindings.{bindings_of}
-use Rattle.xc_bind.specs.Judged.{by_place, by_role, role_of}
+use Rattle.xc_bind.specs.Judged.{by_place, by_role}
+use Rattle.xc_calc.specs.Networks.{role_of}
 use Rattle.xc_bind.specs.declared.types.Binding.{Binding}
 use Rattle.xc_calc.specs.declared.arc.Network.{Network}
 use Rattle.xc_points.specs.declared.types.Point.{Point}

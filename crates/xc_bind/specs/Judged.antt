@@ -65,10 +65,6 @@ pub record AreBindings (networks : List Network) (points : List Point) (bindings
   pub judged : (network_number total_number : ℕ) → HasBinding bindings network_number total_number ↔ IsJudged networks points network_number total_number
   pub terms : (place : ℕ) (binding : Binding) → slice_get bindings place ≡ Some binding → HasItsTerms networks points binding
 
--- the role of a network, by its number
-abbrev pub role_of : List Network → ℕ → List ℕ
-role_of networks number = option_map_or (λ network. network.role) (slice_get networks number) []
-
 -- by role as bytes, and then by total
 abbrev pub by_role : List Network → Binding → Binding → Ordering
 by_role networks a b = ordering_then (slice_cmp nat_cmp (role_of networks a.network) (role_of networks b.network)) (nat_cmp a.total b.total)

@@ -10,7 +10,7 @@ use Rattle.std.proofs.lemmas.List.{append-nil, length-append}
 use Rattle.std.proofs.lemmas.List.Sums.{split_at_first, prefix_len_stops}
 use Rattle.xc_model.specs.Ratio.{Ratio, IsOver}
 use Rattle.xc_model.proofs.Integers.{mul_comm, cancel}
-use Rattle.xc_frac.proofs.LowestTerms.{cross_tells, one_lowest}
+use Rattle.xc_model.proofs.LowestTerms.{cross_tells, one_lowest}
 use Rattle.xc_decimal.specs.Digits.{AreDigits}
 use Rattle.xc_decimal.specs.Laws.{HasOneSpelling}
 use Rattle.xc_decimal.specs.Spelling.{spelling, ends_numerator, IsNaturalOf, IsIntegerOf}

@@ -5,8 +5,8 @@ use Rattle.std.specs.declared.cmp.Ordering.{Ordering}
 use Rattle.std.specs.declared.cmp.Ordering.TheVariants.{Less, Equal, Greater}
 use Rattle.xc_model.specs.Fraction.{Fraction, SameNumber, IsBelow, whole}
 use Rattle.xc_model.proofs.Numbers.{same-sym, below-same}
-use Rattle.xc_frac.specs.Laws.{RealsCompare}
-use Rattle.xc_frac.specs.Parts.{Parts, SameParts, OrdersParts}
+use Rattle.xc_model.specs.Laws.{RealsCompare}
+use Rattle.xc_model.specs.Parts.{Parts, SameParts, OrdersParts}
 
 -- neither of two zeros is below the other
 none_below : (x y : Fraction) → SameNumber x (whole (pos 0)) → SameNumber y (whole (pos 0)) → IsBelow x y → ⊥

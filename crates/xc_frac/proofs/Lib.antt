@@ -4,8 +4,6 @@ pub mod Compared
 pub mod DeltaOrder
 pub mod Inverses
 pub mod LeastCommons
-pub mod LowestTerms
-pub mod Orders
 pub mod PartsOver
 pub mod PowersOfTen
 pub mod QuickSums

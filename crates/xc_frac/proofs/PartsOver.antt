@@ -8,7 +8,7 @@ use Rattle.xc_model.specs.Order.{Orders}
 use Rattle.xc_model.specs.Ratio.{Ratio, fraction_of}
 use Rattle.xc_model.proofs.Numbers.{same-refl}
 use Rattle.xc_model.proofs.NumbersOver.{number_over-same, neg_number, sum_number, product_number, quotient_number, below_number, equal_number}
-use Rattle.xc_frac.specs.Parts.{Parts, real_alone, SameParts, IsLess, OrdersParts, neg_parts, sum_parts, difference_parts, WholeParts, ArePartsOver, whole_neg, whole_sum, whole_difference, IsLessWhole, OrdersWhole}
+use Rattle.xc_model.specs.Parts.{Parts, real_alone, SameParts, IsLess, OrdersParts, neg_parts, sum_parts, difference_parts, WholeParts, ArePartsOver, whole_neg, whole_sum, whole_difference, IsLessWhole, OrdersWhole}
 
 pub sum_parts_over : (x y z : Parts) (a b : WholeParts) (d : ℕ) → SameParts z (sum_parts x y) → ArePartsOver x a d → ArePartsOver y b d → ArePartsOver z (whole_sum a b) d
 sum_parts_over x y z a b d same left right = record {

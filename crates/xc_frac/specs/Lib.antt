@@ -1,5 +1,3 @@
 pub mod Cleared
-pub mod Laws
-pub mod Parts
 pub mod Passes
 pub mod Rooms

@@ -3,7 +3,7 @@ use Rattle.std.specs.Prelude.{◌≡◌, ℕ, ℤ, ◌<◌, ◌^◌, ◌⊎◌}
 use Rattle.xc_model.specs.Fraction.{IsNumberOver, IsProductOver, IsQuotientOver}
 use Rattle.xc_model.specs.Ratio.{Ratio, fraction_of}
 use Rattle.xc_model.specs.Width.{IsNarrow, SumPasses, DifferencePasses, ProductPasses, QuotientPasses}
-use Rattle.xc_frac.specs.Parts.{Parts, WholeParts, ArePartsOver, PartsFit, whole_neg}
+use Rattle.xc_model.specs.Parts.{Parts, WholeParts, ArePartsOver, PartsFit, whole_neg}
 use Rattle.xc_frac.specs.declared.wide.Wide.{Wide}
 use Rattle.xc_frac.specs.declared.wide.Op.{Op}
 use Rattle.xc_frac.specs.declared.wide.Op.TheVariants.{Add, Sub, Mul, Div}

@@ -5,7 +5,7 @@ use Rattle.xc_model.specs.Fraction.{whole, SameNumber, IsNumberOver}
 use Rattle.xc_model.specs.Ratio.{fraction_of}
 use Rattle.xc_model.specs.Width.{SumFits}
 use Rattle.xc_model.proofs.NumbersOver.{zero_over, sum_of_fits, difference_of_fits, product_room, quotient_room}
-use Rattle.xc_frac.specs.Parts.{Parts, real_alone, WholeParts, ArePartsOver, whole_alone, whole_neg, PartsFit, pair_of}
+use Rattle.xc_model.specs.Parts.{Parts, real_alone, WholeParts, ArePartsOver, whole_alone, whole_neg, PartsFit, pair_of}
 use Rattle.xc_frac.specs.Passes.{PassesAs, FirstPasses, SumsHaveRoom, DifferencesHaveRoom, ProductsHaveRoom, QuotientsHaveRoom}
 use Rattle.xc_frac.specs.declared.wide.Wide.{Wide}
 use Rattle.xc_frac.specs.declared.wide.Op.{Op}

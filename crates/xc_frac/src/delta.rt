@@ -2,7 +2,7 @@ ghost use Rattle.std.specs.Prelude.{◌≢◌, ℕ, ℤ, pos, IsOk, IfOk, IfErr,
 ghost use Rattle.xc_model.specs.Fraction.{SameNumber, IsNumberOver, product_of, IsQuotient};
 ghost use Rattle.xc_frac.specs.declared.wide.Op.{Op};
 ghost use Rattle.xc_frac.specs.declared.wide.Wide.{Wide};
-ghost use Rattle.xc_frac.specs.Parts.{WholeParts, ArePartsOver, AreNarrowParts, ArePartsTimes, ArePartsBy, pair_of};
+ghost use Rattle.xc_model.specs.Parts.{WholeParts, ArePartsOver, AreNarrowParts, ArePartsTimes, ArePartsBy, pair_of};
 ghost use Rattle.xc_frac.specs.Passes.{FirstPasses};
 ghost use Rattle.xc_frac.specs.Rooms.{pair_sums_fit, pair_differences_fit};
 

@@ -3,7 +3,7 @@ ghost use Rattle.xc_model.specs.Fraction.{whole, SameNumber, IsNumberOver, IsPro
 ghost use Rattle.xc_model.specs.Width.{IsNarrow};
 ghost use Rattle.xc_frac.specs.declared.wide.Op.{Op};
 ghost use Rattle.xc_frac.specs.declared.wide.Wide.{Wide};
-ghost use Rattle.xc_frac.specs.Parts.{Parts, SameParts, OrdersParts, zero_parts, neg_parts, sum_parts, difference_parts, WholeParts, ArePartsOver, OrdersWhole, PartsFit, whole_neg, whole_sum, whole_difference};
+ghost use Rattle.xc_model.specs.Parts.{Parts, SameParts, OrdersParts, zero_parts, neg_parts, sum_parts, difference_parts, WholeParts, ArePartsOver, OrdersWhole, PartsFit, whole_neg, whole_sum, whole_difference};
 ghost use Rattle.xc_frac.specs.Passes.{SumsHaveRoom, DifferencesHaveRoom, ProductsHaveRoom, QuotientsHaveRoom};
 
 use crate::wide::Wide;

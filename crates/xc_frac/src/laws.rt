@@ -3,8 +3,8 @@
 ghost use Rattle.std.specs.Prelude.{◌≡◌, pos};
 ghost use Rattle.xc_model.specs.Fraction.{Fraction, SameNumber, IsBelow, whole, neg_of, sum_of, product_of};
 ghost use Rattle.xc_model.specs.Order.{Orders};
-ghost use Rattle.xc_frac.specs.Laws.{IsEquivalence, Respects, BothRespected, IsAssociative, IsCommutative, IsNeutral, GivesInverses, DistributesOver, AlikeMultiples, DistributesOverThings, DistributesOverFactors, MultipliesFactors, HasOneFactor, IsTotal, IsSingle, IsAntisymmetric, IsTransitive, ComparesAlike, Keeps, Reverses, SignsTell, RealsCompare, Divides, DividesOnce, CrossProductsTell, HasOneLowest};
-ghost use Rattle.xc_frac.specs.Parts.{Parts, SameParts, IsLess, OrdersParts, zero_parts, neg_parts, sum_parts, scaled_parts};
+ghost use Rattle.xc_model.specs.Laws.{IsEquivalence, Respects, BothRespected, IsAssociative, IsCommutative, IsNeutral, GivesInverses, DistributesOver, AlikeMultiples, DistributesOverThings, DistributesOverFactors, MultipliesFactors, HasOneFactor, IsTotal, IsSingle, IsAntisymmetric, IsTransitive, ComparesAlike, Keeps, Reverses, SignsTell, RealsCompare, Divides, DividesOnce, CrossProductsTell, HasOneLowest};
+ghost use Rattle.xc_model.specs.Parts.{Parts, SameParts, IsLess, OrdersParts, zero_parts, neg_parts, sum_parts, scaled_parts};
 ghost use Rattle.xc_frac.specs.Passes.{SumsHaveRoom, DifferencesHaveRoom, ProductsHaveRoom, QuotientsHaveRoom};
 
 use crate::exact::{Exact, Scalar};

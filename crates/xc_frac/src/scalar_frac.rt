@@ -2,7 +2,7 @@ ghost use Rattle.std.specs.Prelude.{pos};
 ghost use Rattle.xc_model.specs.Fraction.{whole};
 ghost use Rattle.xc_model.specs.Ratio.{fraction_of};
 ghost use Rattle.xc_model.proofs.Numbers.{same-refl};
-ghost use Rattle.xc_frac.specs.Parts.{real_alone};
+ghost use Rattle.xc_model.specs.Parts.{real_alone};
 ghost use Rattle.xc_frac.specs.Passes.{PassesAs};
 ghost use Rattle.xc_frac.specs.Rooms.{sums_fit, differences_fit, products_fit, quotients_fit};
 

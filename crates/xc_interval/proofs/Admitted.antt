@@ -10,7 +10,7 @@ use Rattle.xc_model.proofs.Arithmetic.{sum-comm, sum-zero, below-sum}
 use Rattle.xc_model.proofs.Integers.{ring, neg-mul, cancel_lt, scale_lt, scale_le}
 use Rattle.xc_model.proofs.Numbers.{same-refl, same-sym, same-trans, same-sum}
 use Rattle.xc_model.proofs.Over.{over_same, sign_over}
-use Rattle.xc_frac.proofs.Orders.{number_order}
+use Rattle.xc_model.proofs.Orders.{number_order}
 use Rattle.xc_interval.specs.Admits.{ten_to, excess, IsRounded, IsTruncated, Admits}
 use Rattle.xc_interval.specs.Ends.{value_of, is_open}
 use Rattle.xc_interval.specs.Intervals.{IsAtMost, IsPast, IsBefore, HasNumber}

@@ -3,8 +3,8 @@ use Rattle.std.proofs.Common.{◌≡◌, Bool, true, false, pos, refl, sym, ap, 
 use Rattle.std.specs.Prelude.{◌↔◌, IsTrue}
 use Rattle.xc_model.specs.Fraction.{Fraction, SameNumber, IsBelow, whole, sum_of, neg_of, product_of}
 use Rattle.xc_model.proofs.Numbers.{same-refl}
-use Rattle.xc_frac.specs.Parts.{Parts, IsLess, SameParts, real_alone, zero_parts, sum_parts, neg_parts}
-use Rattle.xc_frac.proofs.Orders.{same_parts}
+use Rattle.xc_model.specs.Parts.{Parts, IsLess, SameParts, real_alone, zero_parts, sum_parts, neg_parts}
+use Rattle.xc_model.proofs.Orders.{same_parts}
 use Rattle.xc_interval.specs.Arithmetic.{IsSumOfPairs, IsSumOfNumbers, IsSumInterval, IsTurned, IsNegativeOfNumber, IsMultiple}
 use Rattle.xc_interval.specs.Ends.{value_of, end_at}
 use Rattle.xc_interval.specs.Intervals.{AreReal, pairs_of, reals_of, HasPair, HasNumber, HasNoPair, HasNoNumber, TellsNone}

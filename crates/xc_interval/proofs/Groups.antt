@@ -1,6 +1,6 @@
 -- Sums and differences in an ordered group.
-use Rattle.xc_frac.proofs.Orders.{IsOrder}
-use Rattle.xc_frac.specs.Laws.{BothRespected, IsAssociative, IsCommutative, IsNeutral, GivesInverses}
+use Rattle.xc_model.proofs.Orders.{IsOrder}
+use Rattle.xc_model.specs.Laws.{BothRespected, IsAssociative, IsCommutative, IsNeutral, GivesInverses}
 
 pub record IsGroup {A : Type 0} (Less Same : A → A → Type 0) (sum : A → A → A) (neg : A → A) (zero_ : A) : Type 0 where
   pub order : IsOrder Less Same

@@ -1,7 +1,7 @@
 -- What a function makes of an interval, where it keeps or turns the order and every value is made from one.
 use Rattle.std.proofs.Common.{◌≡◌, Bool, ◌∙◌, sym, inl, inr, ◌⊎◌}
 use Rattle.std.specs.Prelude.{◌↔◌}
-use Rattle.xc_frac.proofs.Orders.{IsOrder}
+use Rattle.xc_model.proofs.Orders.{IsOrder}
 use Rattle.xc_interval.specs.Arithmetic.{IsKept, IsTurned, IsMadeFrom}
 use Rattle.xc_interval.specs.Ends.{value_of, is_open}
 use Rattle.xc_interval.specs.Intervals.{LiesIn}

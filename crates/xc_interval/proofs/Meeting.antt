@@ -1,7 +1,7 @@
 -- Two intervals have a value in common where each low end reaches each high end.
 use Rattle.std.proofs.Common.{◌≡◌, Bool, true, false, inl, inr, ◌⊎◌}
 use Rattle.std.proofs.lemmas.Bool.{cases_Bool}
-use Rattle.xc_frac.proofs.Orders.{IsOrder}
+use Rattle.xc_model.proofs.Orders.{IsOrder}
 use Rattle.xc_interval.specs.Ends.{value_of, is_open}
 use Rattle.xc_interval.specs.Intervals.{LiesIn}
 use Rattle.xc_interval.specs.Laws.{EndsTell}

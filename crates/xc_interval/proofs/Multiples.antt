@@ -6,7 +6,7 @@ use Rattle.xc_model.specs.Fraction.{Fraction, SameNumber, IsBelow, neg_of, produ
 use Rattle.xc_model.proofs.Arithmetic.{quotient_exists, below-product, below-product_neg, below-neg}
 use Rattle.xc_model.proofs.Integers.{neg-neg}
 use Rattle.xc_model.proofs.Numbers.{same-refl, same-sym, same-neg, same-product}
-use Rattle.xc_frac.specs.Parts.{Parts, SameParts, IsLess, neg_parts}
+use Rattle.xc_model.specs.Parts.{Parts, SameParts, IsLess, neg_parts}
 use Rattle.xc_interval.specs.Arithmetic.{IsTurned, IsScaled, IsMultiple, IsNegativeOfPair, IsNegativeOfNumber}
 use Rattle.xc_interval.specs.Intervals.{HasNumber, HasPair}
 use Rattle.xc_interval.specs.Laws.{HasMultiples}

@@ -8,8 +8,8 @@ use Rattle.xc_model.specs.Order.{Orders}
 use Rattle.xc_model.proofs.Arithmetic.{sum-assoc, sum-comm, sum-zero, sum-neg, below-sum}
 use Rattle.xc_model.proofs.Integers.{mul-add, add-mul}
 use Rattle.xc_model.proofs.Numbers.{same-refl, same-sum}
-use Rattle.xc_frac.proofs.Orders.{number_order, number_total, pair_order, pair_total}
-use Rattle.xc_frac.specs.Parts.{Parts, SameParts, IsLess, OrdersParts, zero_parts, neg_parts, sum_parts}
+use Rattle.xc_model.proofs.Orders.{number_order, number_total, pair_order, pair_total}
+use Rattle.xc_model.specs.Parts.{Parts, SameParts, IsLess, OrdersParts, zero_parts, neg_parts, sum_parts}
 use Rattle.xc_interval.proofs.Groups.{IsGroup}
 use Rattle.xc_interval.proofs.Meeting.{IsDense}
 

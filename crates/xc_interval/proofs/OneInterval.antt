@@ -4,7 +4,7 @@ use Rattle.std.specs.Prelude.{◌↔◌}
 use Rattle.xc_model.specs.Fraction.{SameNumber, IsBelow, whole}
 use Rattle.xc_model.specs.Ratio.{Ratio, fraction_of}
 use Rattle.xc_model.proofs.Numbers.{same-refl}
-use Rattle.xc_frac.specs.Laws.{HasOneLowest}
+use Rattle.xc_model.specs.Laws.{HasOneLowest}
 use Rattle.xc_interval.specs.Ends.{value_of, is_open, end_at}
 use Rattle.xc_interval.specs.Intervals.{LiesIn, numbers_of, frac_parts}
 use Rattle.xc_interval.specs.Laws.{HasOneInterval}

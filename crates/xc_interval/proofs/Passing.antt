@@ -9,7 +9,7 @@ use Rattle.xc_frac.specs.Passes.{Passes, PassesAs}
 use Rattle.xc_frac.specs.declared.wide.Op.{Op}
 use Rattle.xc_frac.specs.declared.wide.Op.TheVariants.{Add, Sub}
 use Rattle.xc_frac.specs.declared.wide.Wide.{Wide}
-use Rattle.xc_frac.proofs.LowestTerms.{one_lowest}
+use Rattle.xc_model.proofs.LowestTerms.{one_lowest}
 use Rattle.xc_interval.specs.Reported.{PassesWith, TruncationPasses, truncated, unit_of, IsSameInterval}
 use Rattle.xc_interval.specs.Ends.{value_of}
 use Rattle.xc_interval.specs.declared.ends.End.TheVariants.{Closed, Open}

@@ -3,8 +3,8 @@ use Rattle.std.proofs.Common.{◌≡◌, ◌||◌, refl, sym, ◌∙◌, subst, 
 use Rattle.std.specs.Prelude.{◌⊎◌, ◌↔◌}
 use Rattle.xc_model.specs.Fraction.{Fraction, SameNumber, IsBelow, whole, sum_of, neg_of}
 use Rattle.xc_model.proofs.Numbers.{same-refl, same-sym, same-trans}
-use Rattle.xc_frac.proofs.Orders.{number_order}
-use Rattle.xc_frac.specs.Parts.{Parts, SameParts, IsLess, real_alone, sum_parts, neg_parts}
+use Rattle.xc_model.proofs.Orders.{number_order}
+use Rattle.xc_model.specs.Parts.{Parts, SameParts, IsLess, real_alone, sum_parts, neg_parts}
 use Rattle.xc_interval.specs.Arithmetic.{IsSumEnd, IsSumInterval, IsMadeEnd, IsTurned}
 use Rattle.xc_interval.specs.Ends.{value_of, is_open, end_at}
 use Rattle.xc_interval.specs.Intervals.{IsPast, IsBefore, Crosses, AreReal, pairs_of, reals_of, HasPair, HasNumber, HasNoPair, HasNoNumber}

@@ -1,7 +1,7 @@
 -- Ends as a value and a flag: how an interval lies to a value is told by these.
 use Rattle.std.proofs.Common.{◌≡◌, Bool, true, false, ◌||◌, refl, inl, inr, ◌⊎◌}
 use Rattle.std.specs.Prelude.{IsTrue}
-use Rattle.xc_frac.proofs.Orders.{IsOrder}
+use Rattle.xc_model.proofs.Orders.{IsOrder}
 use Rattle.xc_interval.specs.Ends.{value_of, is_open, end_at}
 use Rattle.xc_interval.specs.Intervals.{IsPast, IsBefore, Crosses}
 use Rattle.xc_interval.specs.declared.ends.End.{End}

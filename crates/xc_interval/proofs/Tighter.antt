@@ -1,8 +1,8 @@
 -- Which of two ends is the tighter one, and what both let in.
 use Rattle.std.proofs.Common.{◌≡◌, Bool, true, false, not, ◌&&◌, refl, sym, ◌∙◌, ap, subst, inl, inr, ◌⊎◌}
 use Rattle.std.specs.Prelude.{◌↔◌, IsTrue}
-use Rattle.xc_frac.specs.Parts.{Parts, IsLess, SameParts}
-use Rattle.xc_frac.proofs.Orders.{IsOrder, pair_order}
+use Rattle.xc_model.specs.Parts.{Parts, IsLess, SameParts}
+use Rattle.xc_model.proofs.Orders.{IsOrder, pair_order}
 use Rattle.xc_interval.specs.Ends.{value_of, is_open, end_at}
 use Rattle.xc_interval.specs.Intervals.{IsPast, IsBefore}
 use Rattle.xc_interval.specs.Laws.{IsTightness}

@@ -1,7 +1,7 @@
 -- The ends of sums, negatives and multiples of intervals, and what lies in these.
 use Rattle.std.specs.Prelude.{◌≡◌, ◌||◌, ◌<ℤ◌, pos}
 use Rattle.xc_model.specs.Fraction.{Fraction, SameNumber, IsBelow, neg_of, sum_of, product_of}
-use Rattle.xc_frac.specs.Parts.{Parts, IsLess, SameParts, neg_parts, sum_parts}
+use Rattle.xc_model.specs.Parts.{Parts, IsLess, SameParts, neg_parts, sum_parts}
 use Rattle.xc_interval.specs.Ends.{value_of, is_open}
 use Rattle.xc_interval.specs.Intervals.{LiesIn}
 use Rattle.xc_interval.specs.declared.ends.End.{End}

@@ -2,7 +2,7 @@
 use Rattle.std.specs.Prelude.{pos, ◌⊎◌, ◌||◌, Bool, true, false, IsTrue}
 use Rattle.xc_model.specs.Fraction.{Fraction, whole, SameNumber, IsBelow}
 use Rattle.xc_model.specs.Ratio.{Ratio, fraction_of}
-use Rattle.xc_frac.specs.Parts.{Parts, IsLess, SameParts, real_alone}
+use Rattle.xc_model.specs.Parts.{Parts, IsLess, SameParts, real_alone}
 use Rattle.xc_interval.specs.Ends.{value_of, is_open, end_at}
 use Rattle.xc_interval.specs.declared.ends.End.{End}
 use Rattle.xc_interval.specs.declared.ends.End.TheVariants.{Closed, Open}

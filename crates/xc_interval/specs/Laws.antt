@@ -3,7 +3,7 @@ use Rattle.std.specs.Prelude.{◌≡◌, ◌≢◌, ℕ, ◌*◌, ◌+◌, ◌<�
 use Prim.Native.Nat.{◌∣◌}
 use Rattle.xc_model.specs.Fraction.{Fraction}
 use Rattle.xc_model.specs.Ratio.{Ratio}
-use Rattle.xc_frac.specs.Parts.{real_alone}
+use Rattle.xc_model.specs.Parts.{real_alone}
 use Rattle.xc_interval.specs.Arithmetic.{IsSumInterval, IsSumFrom, IsScaled, IsMultiple}
 use Rattle.xc_interval.specs.Intervals.{LiesIn, Crosses, between, frac_parts, numbers_of, pairs_of, HasPair, HasNumber, HasNoPair}
 use Rattle.xc_interval.specs.Ranges.{IsRangeOf}

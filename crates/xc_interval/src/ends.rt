@@ -1,6 +1,6 @@
 ghost use Rattle.std.specs.Prelude.{◌≡◌, ◌↔◌, IsTrue, ◌&&◌, not};
 ghost use Rattle.xc_model.specs.Fraction.{SameNumber, IsBelow};
-ghost use Rattle.xc_frac.specs.Parts.{IsLess, SameParts};
+ghost use Rattle.xc_model.specs.Parts.{IsLess, SameParts};
 ghost use Rattle.xc_interval.specs.Ends.{value_of, is_open, end_at};
 ghost use Rattle.xc_interval.specs.Intervals.{AreReal};
 ghost use Rattle.xc_interval.specs.Tightest.{IsTighterLow, IsTighterHigh};

@@ -1,6 +1,6 @@
 ghost use Rattle.std.specs.Prelude.{◌≡◌, ◌≢◌, ◌⊎◌, pos, ◌<ℤ◌, ◌↔◌, IsTrue, IfOk, OnOk, IfErr};
 ghost use Rattle.xc_model.specs.Fraction.{Fraction, SameNumber, neg_of, sum_of, product_of};
-ghost use Rattle.xc_frac.specs.Parts.{Parts, IsLess, SameParts, neg_parts, sum_parts};
+ghost use Rattle.xc_model.specs.Parts.{Parts, IsLess, SameParts, neg_parts, sum_parts};
 ghost use Rattle.xc_frac.specs.Passes.{FirstPasses};
 ghost use Rattle.xc_frac.specs.declared.wide.Op.{Op};
 ghost use Rattle.xc_frac.specs.declared.wide.Wide.{Wide};

@@ -1,7 +1,7 @@
 //! What follows from the definitions for all intervals. The functions do nothing: code calls one
 //! where its proof needs the clauses.
 ghost use Rattle.xc_model.specs.Fraction.{SameNumber, IsBelow, sum_of};
-ghost use Rattle.xc_frac.specs.Parts.{IsLess, SameParts, sum_parts};
+ghost use Rattle.xc_model.specs.Parts.{IsLess, SameParts, sum_parts};
 ghost use Rattle.xc_interval.specs.Intervals.{IsPast, IsBefore};
 ghost use Rattle.xc_interval.specs.Laws.{EndsTell, HasSums, HasMultiples, HasRealsAlone, HasOneInterval, HasOneRangeOf, IsTightness, HaveScales, ScalesGrow, SumsStay, ProductsStay};
 ghost use Rattle.xc_interval.specs.Tightest.{IsTighterLow, IsTighterHigh};

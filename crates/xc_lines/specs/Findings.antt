@@ -2,7 +2,7 @@
 use Rattle.std.specs.Prelude.{ℕ, ◌≢◌, ◌<◌, List, [], ◌++◌, length, filter, All, option_and_then, slice_get, codes, decimal}
 use Rattle.std.specs.List.{flat_map, zip, enumerate_from}
 use Rattle.std.specs.Option.{option_map_or}
-use Rattle.xc_bind.specs.Judged.{role_of}
+use Rattle.xc_calc.specs.Networks.{role_of}
 use Rattle.xc_bind.specs.declared.types.Binding.{Binding}
 use Rattle.xc_bind.specs.declared.types.Verdict.{Verdict}
 use Rattle.xc_bind.specs.declared.types.Verdict.TheVariants.{Consistent, Inconsistent, Unjudged, TooWide}

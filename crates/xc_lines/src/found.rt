@@ -1,7 +1,7 @@
 // What is found of a report: a line with the counts, one for each binding, one for each empty point.
 ghost use Rattle.std.specs.Prelude.{◌≡◌, ◌≢◌, ◌<◌, ◌++◌, [], IfOk, OnOk, All, length, string_bytes, if◌then◌else◌};
 ghost use Rattle.std.specs.List.{zip, enumerate_from};
-ghost use Rattle.xc_bind.specs.Judged.{role_of};
+ghost use Rattle.xc_calc.specs.Networks.{role_of};
 ghost use Rattle.xc_interval.specs.Ranges.{is_empty_range};
 ghost use Rattle.xc_lines.specs.Findings.{CarryFacts, NameTotals, NameNetworks, HaveFacts, first_id, first_id_at, counts_line, mode_code, verdict_code, verdict_word, binding_line, binding_lines, empty_point_line, empty_point_lines, findings};
 

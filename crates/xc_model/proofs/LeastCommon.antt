@@ -10,7 +10,7 @@ use Rattle.xc_model.specs.Fraction.{Fraction, SameNumber, sum_of}
 use Rattle.xc_model.specs.Width.{IsNarrow, IsWide, Meets, SumPasses}
 use Rattle.xc_model.proofs.Gauss.{gauss, IsCoprime-swap}
 use Rattle.xc_model.proofs.Integers.{ring, cancel, mul_comm}
-use Rattle.xc_model.proofs.Lowest.{SameTerms}
+use Rattle.xc_model.proofs.Lowest.{SameTerms, narrow_or_wide}
 use Rattle.xc_model.proofs.Numbers.{den_some}
 
 -- n g and m g, where n and m have no common factor, have the least common multiple n g m
@@ -38,9 +38,6 @@ sum_cross a b c d l p q h i =
 -- the sum of the numerators over the least common denominator is the sum
 pub sum_meets : (x y : Fraction) (l : ℕ) (p q : ℤ) (positive : 0 < l) → Meets x y l p q → SameNumber (record { num = p +ℤ q; den = l; positive = positive }) (sum_of x y)
 sum_meets x y l p q positive m = record { cross = sum_cross x.num (pos x.den) y.num (pos y.den) (pos l) p q m.left m.right }
-
-narrow_or_wide : (y z : ℤ) → y ≡ z → IsNarrow y → IsWide z → ⊥
-narrow_or_wide y z e narrow wide = omega (arith, ap unsigned_abs e)
 
 numerator_unique : (b a l m p q : ℤ) → b ≢ pos 0 → l ≡ m → p *ℤ b ≡ a *ℤ l → q *ℤ b ≡ a *ℤ m → p ≡ q
 numerator_unique b a l m p q some same e f = cancel b p q some (mul_comm b p ∙ e ∙ ap (λ z. a *ℤ z) same ∙ sym f ∙ mul_comm q b)

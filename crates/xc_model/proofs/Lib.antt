@@ -3,7 +3,9 @@ pub mod Gauss
 pub mod Integers
 pub mod LeastCommon
 pub mod Lowest
+pub mod LowestTerms
 pub mod Numbers
 pub mod NumbersOver
+pub mod Orders
 pub mod Over
 pub mod Quotients

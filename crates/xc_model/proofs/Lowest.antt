@@ -32,7 +32,8 @@ lowest_unique x y h co co' =
     let scaled : pos x.den *ℤ x.num ≡ pos x.den *ℤ y.num = mul_comm (pos x.den) x.num ∙ ap (λ (z : ℕ). x.num *ℤ pos z) den ∙ h.cross ∙ mul_comm y.num (pos x.den) in
     record { num = cancel (pos x.den) x.num y.num (den_some x) scaled; den = den }
 
-narrow_or_wide : (y z : ℤ) → y ≡ z → IsNarrow y → IsWide z → ⊥
+-- a number that is narrow is not wide
+pub narrow_or_wide : (y z : ℤ) → y ≡ z → IsNarrow y → IsWide z → ⊥
 narrow_or_wide y z e narrow wide = omega (arith, ap unsigned_abs e)
 
 -- a number that fits in lowest terms is not wide there

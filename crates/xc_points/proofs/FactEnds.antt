@@ -2,7 +2,7 @@
 use Rattle.std.proofs.Common.{◌≡◌, ℕ, ℤ, ◌+◌, ◌^◌, ◌<◌, List, [], ◌∷◌, ◌++◌, length, drop, get_or, Option, Some, None, arith, sym, ap, subst, ◌∙◌, append_assoc, append-nil, inl, inr}
 use Rattle.std.proofs.lemmas.List.{drop_more}
 use Rattle.xc_decimal.specs.Shortest.{Shortest, ten_positive, tenths}
-use Rattle.xc_frac.specs.Laws.{HasOneLowest}
+use Rattle.xc_model.specs.Laws.{HasOneLowest}
 use Rattle.xc_frac.specs.declared.wide.Wide.{Wide}
 use Rattle.xc_interval.specs.Reported.{IsNearPlace, ReportPasses}
 use Rattle.xc_interval.specs.declared.interval.Interval.{Interval}

@@ -9,7 +9,7 @@ use Rattle.xc_interval.specs.declared.mode.Mode.{Mode}
 use Rattle.xc_interval.specs.declared.range.Range.TheVariants as range
 use Rattle.xc_model.specs.Fraction.{Fraction, SameNumber, IsBelow}
 use Rattle.xc_model.specs.Ratio.{Ratio}
-use Rattle.xc_points.specs.Gathered.{AreEnds, AreEndsOf, IsMet}
+use Rattle.xc_points.specs.Gathered.{AreEndsOf, IsMet}
 use Rattle.xc_points.specs.Facts.{IsEmptyPoint}
 use Rattle.xc_points.specs.Laws.{HasOneEnds, HasOneRange}
 use Rattle.xc_points.specs.declared.types.Point.{Point}

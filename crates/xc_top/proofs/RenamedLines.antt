@@ -10,7 +10,7 @@ use Rattle.xc_bind.specs.declared.types.Binding.{Binding}
 use Rattle.xc_bind.specs.declared.types.Verdict.{Verdict}
 use Rattle.xc_calc.specs.declared.arc.Network.{Network}
 use Rattle.xc_interval.specs.declared.mode.Mode.{Mode}
-use Rattle.xc_bind.specs.Judged.{role_of}
+use Rattle.xc_calc.specs.Networks.{role_of}
 use Rattle.xc_interval.specs.Ranges.{is_empty_range}
 use Rattle.xc_lines.specs.Findings.{first_id, first_id_at, counts_line, binding_line, empty_point_line, line_of, binding_lines, empty_point_lines, findings}
 use Rattle.xc_points.specs.Laws.{HasOneRange}

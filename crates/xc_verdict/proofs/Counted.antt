@@ -1,19 +1,18 @@
 -- Ends that are whole numbers of one unit: of sums and of weighted intervals, where no operation passes.
-use Rattle.std.proofs.Common.{◌≡◌, ◌≢◌, ℕ, ◌+◌, ◌-◌, ◌*◌, ◌/◌, ◌<◌, ◌≤◌, ◌^◌, ℤ, pos, ◌+ℤ◌, ◌*ℤ◌, inl, inr, refl, sym, ap, subst, ◌∙◌, arith}
+use Rattle.std.proofs.Common.{◌≡◌, ℕ, ◌+◌, ◌-◌, ◌*◌, ◌/◌, ◌<◌, ◌≤◌, ◌^◌, ℤ, pos, ◌+ℤ◌, ◌*ℤ◌, inl, inr, refl, sym, ap, subst, ◌∙◌, arith}
 use Rattle.std.specs.Prelude.{unsigned_abs}
 use Rattle.std.proofs.lemmas.Int.{ints, unsigned_abs-mul}
 use Rattle.std.proofs.Math.Nat.{mul-le-mul_left}
-use Prim.Native.Nat.{◌∣◌}
 use native.Mathlib.Nat.{mul-div_cancel'}
 use Rattle.xc_decimal.specs.Shortest.{Shortest, decimal_number}
 use Rattle.xc_model.specs.Fraction.{Fraction, SameNumber, sum_of, product_of}
 use Rattle.xc_model.specs.Ratio.{Ratio, fraction_of}
 use Rattle.xc_model.specs.Width.{IsNarrow, ProductPasses}
-use Rattle.xc_model.proofs.Integers.{ring, cancel, mul_comm, factor_below}
-use Rattle.xc_model.proofs.Lowest.{lowest_den_divides}
-use Rattle.xc_model.proofs.Numbers.{den_some, same-refl, same-trans, same-product}
+use Rattle.xc_model.proofs.Integers.{ring}
+use Rattle.xc_model.proofs.Numbers.{same-refl, same-trans, same-product}
+use Rattle.xc_model.proofs.NumbersOver.{lowest_room, same_number}
 use Rattle.xc_model.proofs.Over.{ratio, same_over, sum_over, sum_room}
-use Rattle.xc_frac.specs.Parts.{SameParts, sum_parts}
+use Rattle.xc_model.specs.Parts.{SameParts, sum_parts}
 use Rattle.xc_frac.specs.Passes.{PassesAs, FirstPasses}
 use Rattle.xc_frac.specs.declared.wide.Op.TheVariants.{Add, Mul}
 use Rattle.xc_frac.specs.declared.wide.Wide.{Wide}
@@ -69,21 +68,8 @@ no_sum i j w room (inr high) = no_end_sum room.unit room.first room.second i.hig
 -- ---- products
 
 -- a product that is n/d in any terms, both narrow, does not pass
-pub product_room : (x y : Fraction) (n : ℤ) (d : ℕ) (p : 0 < d) → SameNumber (product_of x y) (ratio n d p) → IsNarrow n → d < 2 ^ 127 → ProductPasses x y → ⊥
-product_room x y n d p same narrow small w =
-    let lowest : Fraction = w.lowest in
-    let is : SameNumber lowest (ratio n d p) = same-trans lowest (product_of x y) (ratio n d p) w.same same in
-    let divides : lowest.den ∣ d = lowest_den_divides lowest (ratio n d p) is w.wide.coprime in
-    let k : ℕ = d / lowest.den in
-    let d_is : lowest.den * k ≡ d = mul-div_cancel' lowest.den divides in
-    let whole : pos lowest.den *ℤ pos k ≡ pos d = ap (λ (z : ℕ). pos z) d_is in
-    let some : pos k ≢ pos 0 = λ e. let none : k ≡ 0 = omega (arith, ints, e) in absurd (omega (arith, p, d_is, ap (λ z. lowest.den * z) none)) in
-    let turned : pos lowest.den *ℤ (lowest.num *ℤ pos k) ≡ lowest.num *ℤ (pos lowest.den *ℤ pos k) = simp ring in
-    let num_is : lowest.num *ℤ pos k ≡ n = cancel (pos lowest.den) (lowest.num *ℤ pos k) n (den_some lowest) (turned ∙ ap (λ z. lowest.num *ℤ z) whole ∙ is.cross ∙ mul_comm n (pos lowest.den)) in
-    elim w.wide.wide [
-      | inl wide ↦ omega (arith, factor_below lowest.num (pos k) n num_is some, narrow, wide)
-      | inr wide ↦ omega (arith, factor_below (pos lowest.den) (pos k) (pos d) whole some, small, wide)
-    ]
+product_room : (x y : Fraction) (n : ℤ) (d : ℕ) (p : 0 < d) → SameNumber (product_of x y) (ratio n d p) → IsNarrow n → d < 2 ^ 127 → ProductPasses x y → ⊥
+product_room x y n d p same narrow small w = lowest_room w.lowest n d (same_number w.lowest n d p (same-trans w.lowest (product_of x y) (ratio n d p) w.same same)) narrow small w.wide
 
 -- a number whose denominator divides d, over d
 on_scale : (x : Ratio) (d : ℕ) (p : 0 < d) → IsOnScale d x → SameNumber (fraction_of x) (ratio (x.num *ℤ pos (d / unsigned_abs x.den)) d p)

@@ -9,7 +9,7 @@ use Rattle.xc_model.proofs.Integers.{neg-mul, mul-neg}
 use Rattle.xc_model.proofs.Arithmetic.{product-one}
 use Rattle.xc_model.proofs.Numbers.{same-refl, same-sym, same-trans, same-product}
 use Rattle.xc_model.proofs.Over.{ratio, same_over, sign_over}
-use Rattle.xc_frac.specs.Parts.{SameParts, neg_parts}
+use Rattle.xc_model.specs.Parts.{SameParts, neg_parts}
 use Rattle.xc_interval.specs.Arithmetic.{IsMadeEnd, IsTurned, IsScaled, IsMultiple, IsNegativeOfNumber}
 use Rattle.xc_interval.specs.Ends.{value_of, end_at}
 use Rattle.xc_interval.specs.Intervals.{numbers_of, pairs_of, frac_parts, HasNumber, IsAtMost}

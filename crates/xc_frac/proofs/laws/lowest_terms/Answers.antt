@@ -1,4 +1,4 @@
-use Rattle.xc_frac.proofs.LowestTerms.{cross_tells, one_lowest}
+use Rattle.xc_model.proofs.LowestTerms.{cross_tells, one_lowest}
 use Rattle.xc_frac.proofs.laws.lowest_terms.Goals as goal
 
 pub returns-clause-cross : goal.returns-clause-cross

@@ -1,6 +1,6 @@
 use Rattle.xc_model.specs.Fraction.{SameNumber, IsBelow}
 use Rattle.xc_model.proofs.Arithmetic.{sign_of_num}
-use Rattle.xc_frac.proofs.Orders.{alike, transitive, number_order, number_total, number_sum, number_neg, number_product, number_product_neg}
+use Rattle.xc_model.proofs.Orders.{alike, transitive, number_order, number_total, number_sum, number_neg, number_product, number_product_neg}
 use Rattle.xc_frac.proofs.laws.numbers_are_ordered.Goals as goal
 
 pub returns-clause-same : goal.returns-clause-same

@@ -1,6 +1,6 @@
 use Rattle.xc_model.proofs.Arithmetic.{sum-assoc, sum-comm, sum-zero, sum-neg}
 use Rattle.xc_model.proofs.Numbers.{same-sum, same-neg}
-use Rattle.xc_frac.proofs.Orders.{same_parts}
+use Rattle.xc_model.proofs.Orders.{same_parts}
 use Rattle.xc_frac.proofs.laws.pairs_are_a_group.Goals as goal
 
 pub returns-clause-same : goal.returns-clause-same

@@ -1,6 +1,6 @@
-use Rattle.xc_frac.specs.Parts.{SameParts, IsLess}
+use Rattle.xc_model.specs.Parts.{SameParts, IsLess}
 use Rattle.xc_frac.proofs.DeltaOrder.{reals_compare}
-use Rattle.xc_frac.proofs.Orders.{alike, transitive, pair_order, pair_total, pair_sum, pair_neg, pair_product, pair_product_neg}
+use Rattle.xc_model.proofs.Orders.{alike, transitive, pair_order, pair_total, pair_sum, pair_neg, pair_product, pair_product_neg}
 use Rattle.xc_frac.proofs.laws.pairs_are_ordered.Goals as goal
 
 pub returns-clause-same : goal.returns-clause-same

@@ -1,5 +1,5 @@
 use Rattle.std.proofs.Common.{◌≡◌, true, false, refl}
-use Rattle.xc_frac.specs.Parts.{IsLess, SameParts}
+use Rattle.xc_model.specs.Parts.{IsLess, SameParts}
 use Rattle.xc_interval.specs.Ends.{end_at}
 use Rattle.xc_interval.proofs.Numbers.{pair_dense}
 use Rattle.xc_interval.proofs.Tighter.{high_tightness, both_where, both_unless}

@@ -1,5 +1,5 @@
 use Rattle.xc_model.specs.Fraction.{IsBelow, SameNumber}
-use Rattle.xc_frac.specs.Parts.{IsLess, SameParts}
+use Rattle.xc_model.specs.Parts.{IsLess, SameParts}
 use Rattle.xc_interval.proofs.Meeting.{ends_tell}
 use Rattle.xc_interval.proofs.Numbers.{number_dense, pair_dense}
 use Rattle.xc_interval.proofs.laws.ends_tell.Goals as goal

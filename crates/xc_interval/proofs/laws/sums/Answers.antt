@@ -1,6 +1,6 @@
 use Rattle.std.proofs.Common.{pos}
 use Rattle.xc_model.specs.Fraction.{IsBelow, SameNumber, sum_of, neg_of, whole}
-use Rattle.xc_frac.specs.Parts.{IsLess, SameParts, sum_parts, neg_parts, zero_parts}
+use Rattle.xc_model.specs.Parts.{IsLess, SameParts, sum_parts, neg_parts, zero_parts}
 use Rattle.xc_interval.proofs.Numbers.{number_dense, number_group, pair_dense, pair_group}
 use Rattle.xc_interval.proofs.Sums.{has_sums}
 use Rattle.xc_interval.proofs.laws.sums.Goals as goal

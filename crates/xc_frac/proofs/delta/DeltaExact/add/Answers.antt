@@ -1,4 +1,4 @@
-use Rattle.xc_frac.specs.Parts.{whole_alone}
+use Rattle.xc_model.specs.Parts.{whole_alone}
 use Rattle.xc_frac.specs.Rooms.{alone_over, alone_fit}
 use Rattle.xc_frac.proofs.PartsOver.{sum_parts_over}
 use Rattle.xc_frac.proofs.delta.DeltaExact.add.Goals as goal

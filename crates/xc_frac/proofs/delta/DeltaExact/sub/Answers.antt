@@ -1,5 +1,5 @@
 use Rattle.std.specs.Prelude.{neg_ℤ}
-use Rattle.xc_frac.specs.Parts.{whole_alone}
+use Rattle.xc_model.specs.Parts.{whole_alone}
 use Rattle.xc_frac.specs.Rooms.{alone_over, alone_fit}
 use Rattle.xc_frac.proofs.PartsOver.{difference_parts_over}
 use Rattle.xc_frac.proofs.delta.DeltaExact.sub.Goals as goal

@@ -5,7 +5,7 @@ use Rattle.std.specs.declared.cmp.Ordering.{Ordering}
 use Rattle.xc_model.specs.Fraction.{Fraction, SameNumber, whole, IsQuotient}
 use Rattle.xc_model.specs.Order.{Orders, OrdersInt}
 use Rattle.xc_model.specs.Ratio.{Ratio, fraction_of}
-use Rattle.xc_frac.specs.Parts.{Parts, OrdersParts}
+use Rattle.xc_model.specs.Parts.{Parts, OrdersParts}
 
 module _ {A : Type 0} (Same : A → A → Type 0) where
   -- being the same is an equivalence

@@ -9,8 +9,8 @@ use Rattle.xc_model.specs.Fraction.{Fraction, SameNumber, IsBelow, whole, neg_of
 use Rattle.xc_model.specs.Order.{Orders}
 use Rattle.xc_model.proofs.Arithmetic.{below-sum, below-neg, below-product, below-product_neg}
 use Rattle.xc_model.proofs.Numbers.{same-refl, same-sym, same-trans, same-sum, same-neg, same-product, below-trans, below-same}
-use Rattle.xc_frac.specs.Laws.{IsEquivalence, IsTotal, IsSingle, IsAntisymmetric, IsTransitive, ComparesAlike, Keeps, Reverses}
-use Rattle.xc_frac.specs.Parts.{Parts, SameParts, IsLess, OrdersParts, neg_parts, sum_parts, scaled_parts}
+use Rattle.xc_model.specs.Laws.{IsEquivalence, IsTotal, IsSingle, IsAntisymmetric, IsTransitive, ComparesAlike, Keeps, Reverses}
+use Rattle.xc_model.specs.Parts.{Parts, SameParts, IsLess, OrdersParts, neg_parts, sum_parts, scaled_parts}
 
 -- Below is an order of what is not the same
 module _ {A : Type 0} (Below Same : A → A → Type 0) where

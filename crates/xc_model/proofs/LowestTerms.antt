@@ -5,7 +5,7 @@ use Rattle.std.proofs.Props.{props}
 use Rattle.xc_model.specs.Ratio.{IsLowest, Ratio, fraction_of}
 use Rattle.xc_model.proofs.Integers.{pos-unsigned_abs}
 use Rattle.xc_model.proofs.Lowest.{lowest_unique}
-use Rattle.xc_frac.specs.Laws.{CrossProductsTell, HasOneLowest}
+use Rattle.xc_model.specs.Laws.{CrossProductsTell, HasOneLowest}
 
 lowest_prop : (n d : ℤ) → IsProp (IsLowest n d)
 lowest_prop n d = hlevel props

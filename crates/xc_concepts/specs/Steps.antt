@@ -13,18 +13,13 @@ use Rattle.xc_concepts.specs.declared.references.Owner.TheVariants.{OfType, OfEl
 use Rattle.xc_concepts.specs.declared.references.Reference as lent
 use Rattle.xc_concepts.specs.declared.schema.Schema.{Schema}
 use Rattle.xc_elements.specs.declared.nodes.Node.{Node}
-use Rattle.xc_names.specs.Names.{is_named, name_of}
-use Rattle.xc_names.specs.declared.expanded.Expanded.{Expanded}
+use Rattle.xc_names.specs.Names.{is_named}
 
 -- ---- lent texts
 
 -- a lent text that names a type, at its node
 abbrev pub reference_view : lent.Reference → Reference
 reference_view r = record { at = r.at; text = r.text.now }
-
--- a lent name
-abbrev pub lent_name : Bor (List ℕ) × Bor (List ℕ) → Expanded
-lent_name parts = name_of parts.0.now parts.1.now
 
 -- there is a text, and it is one of these
 abbrev pub is_text_of : List (Bor (List ℕ)) → Option (Bor (List ℕ)) → Bool

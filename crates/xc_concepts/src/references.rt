@@ -1,8 +1,9 @@
 // The texts of a schema that name types, and the types that they name.
 ghost use Rattle.std.specs.Prelude.{◌≡◌, ◌<◌, IfSome, length, option_map};
+ghost use Rattle.xc_names.specs.Names.{lent_name};
 ghost use Rattle.xc_concepts.specs.Schemas.{restricted_type, restricted_element};
 ghost use Rattle.xc_concepts.specs.References.{default_space, type_name, base_at, first_base, base_of_type, type_of_element, judged_at};
-ghost use Rattle.xc_concepts.specs.Steps.{reference_view, lent_name, owner_of};
+ghost use Rattle.xc_concepts.specs.Steps.{reference_view, owner_of};
 
 use crate::elements::{around, is_place, text_at, top_name};
 use xc_chars::{is_plain_name, split};

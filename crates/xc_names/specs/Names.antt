@@ -1,5 +1,6 @@
 -- Expanded names in a list, each numbered by its place: Namespaces in XML 1.0, section 2.1.
 use Rattle.std.specs.Prelude.{◌≡◌, ℕ, Bool, ◌&&◌, ◌++◌, List, [], ◌∷◌, Option, Some, is_some, slice_get, if◌then◌else◌}
+use Rattle.std.specs.Borrow.{Bor}
 use Rattle.std.specs.List.{position_from}
 use Rattle.std.specs.Str.{bytes_eq}
 use Rattle.xc_names.specs.declared.expanded.Expanded.{Expanded}
@@ -7,6 +8,10 @@ use Rattle.xc_names.specs.declared.expanded.Expanded.{Expanded}
 -- the expanded name of a namespace and a local part
 abbrev pub name_of : List ℕ → List ℕ → Expanded
 name_of space local = record { space = space; local = local }
+
+-- the expanded name of two lent texts
+abbrev pub lent_name : Bor (List ℕ) × Bor (List ℕ) → Expanded
+lent_name parts = name_of parts.0.now parts.1.now
 
 -- the name has this namespace and this local part: names are equal where both parts are
 abbrev pub is_named : List ℕ → List ℕ → Expanded → Bool

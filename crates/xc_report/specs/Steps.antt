@@ -1,9 +1,6 @@
 -- What private steps of the code say. No public clause cites them.
 use Rattle.std.specs.Prelude.{◌≡◌, ◌≤◌, ℕ, List, [], true, false, Option, Some, None, Result, Ok, Err, Vec, vec_capacity, length}
-use Rattle.std.specs.Borrow.{Bor}
 use Rattle.std.specs.declared.alloc.Global.{Global}
-use Rattle.xc_names.specs.Names.{name_of}
-use Rattle.xc_names.specs.declared.expanded.Expanded.{Expanded}
 use Rattle.serde_json.specs.Data.{Members}
 use Rattle.xc_report.specs.Stated.{are_parts, given_parts}
 use Rattle.xc_report.specs.StatedFacts.{first, faults_of, facts_of}
@@ -43,10 +40,6 @@ abbrev pub GivesParts : Result (Vec StatedPart Global) Refusal → Known → Mem
 GivesParts (Ok parts) known ms = (are_parts known ms ≡ true) × (parts.items ≡ given_parts known ms)
 GivesParts (Err refusal.Memory) known ms = Unit {0}
 GivesParts (Err refusal.Bad) known ms = are_parts known ms ≡ false
-
--- a lent name
-abbrev pub lent_name : Bor (List ℕ) × Bor (List ℕ) → Expanded
-lent_name p = name_of p.0.now p.1.now
 
 -- what is known, as it is lent
 abbrev pub known_view : lent.Known → Known

@@ -1,7 +1,7 @@
 // Expanded names of texts with a prefix, lent by the text and by what its prefix stands for.
 ghost use Rattle.std.specs.Prelude.{◌≡◌, option_map};
+ghost use Rattle.xc_names.specs.Names.{lent_name};
 ghost use Rattle.xc_report.specs.Prefixed.{expanded, expanded_loosely, bound_name};
-ghost use Rattle.xc_report.specs.Steps.{lent_name};
 
 use xc_chars::{around, split};
 use xc_names::Prefixes;

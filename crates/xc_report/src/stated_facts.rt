@@ -1,7 +1,8 @@
 // The facts of a report by expanded names, or the first fault.
 ghost use Rattle.std.specs.Prelude.{◌≡◌, ◌++◌, Option, Some, option_map, IfOk, IfErr};
 ghost use Rattle.serde_json.specs.View.{view, members_view};
-ghost use Rattle.xc_report.specs.Steps.{Reads, Tells, TellsFacts, known_view, lent_name};
+ghost use Rattle.xc_names.specs.Names.{lent_name};
+ghost use Rattle.xc_report.specs.Steps.{Reads, Tells, TellsFacts, known_view};
 ghost use Rattle.xc_report.specs.Reports.{StatedIdsAscend};
 ghost use Rattle.xc_report.specs.StatedFacts.{concept_text, concept_of, null_or_text, value_of, fact_parts, value_read, read_of, decimals_of, whole_or_none, stated, with_node, with_value, with_parts, with_reading, with_decimals};
 ghost use Rattle.xc_report.specs.declared.reports.ReportFault.TheVariants as ReportFault;

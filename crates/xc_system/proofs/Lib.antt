@@ -1,0 +1,4 @@
+pub mod Contradictions
+pub mod Excluding
+pub mod Scaling
+pub mod Totals

@@ -1,0 +1,31 @@
+-- Systems: what the facts of a report allow for the values of its data points, and the sums that its bindings state. One value is
+-- asked for each point (the joint question is this project's own).
+use Rattle.std.specs.Prelude.{ℕ, ◌==◌, Bool, List, [], map, IsTrue, Option, None, slice_get, slice_index_or, length, ◌<◌, All}
+use Rattle.std.specs.List.{list_any}
+use Rattle.xc_system.specs.declared.types.Bound.{Bound}
+use Rattle.xc_system.specs.declared.types.Entry.{Entry}
+use Rattle.xc_system.specs.declared.types.Equation.{Equation}
+
+-- how many points there are, a bound for each fact, and an equation for each binding
+pub record Constraints : Type 0 where
+  pub points : ℕ
+  pub bounds : List Bound
+  pub equations : List Equation
+
+-- some bound is one of this point
+abbrev pub HasBound : List Bound → ℕ → Type 0
+HasBound bounds p = IsTrue (list_any (λ bound. bound.point == p) bounds)
+
+-- what is kept of a system: every bound and every entry names a point, and every point has a bound
+pub record IsSystem (s : Constraints) : Type 0 where
+  pub bounds : All (λ bound. bound.point < s.points) s.bounds
+  pub equations : All (λ equation. All (λ entry. entry.point < s.points) equation.entries) s.equations
+  pub bounded : (p : ℕ) → p < s.points → HasBound s.bounds p
+
+-- the equation with this number; no entries where there is none
+abbrev pub equation_at : Constraints → ℕ → Equation
+equation_at s i = slice_index_or s.equations i (record { entries = [] })
+
+-- the points of an equation, by its entries
+abbrev pub points_of : Equation → List ℕ
+points_of equation = map (λ entry. entry.point) equation.entries

@@ -1,0 +1,12 @@
+//! Systems of bounds and equations: what the facts of a report and its calculation bindings ask of the
+//! values of its data points, and the components into which they fall.
+#![tactic(auto)]
+
+pub mod laws;
+mod refutation;
+mod systems;
+mod types;
+
+pub use refutation::Refutation;
+pub use systems::System;
+pub use types::{Bound, Certificate, Component, Entry, Equation, Side, Spot};

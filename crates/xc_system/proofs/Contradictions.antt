@@ -68,7 +68,7 @@ module _ (s : Constraints) (r : Multipliers) (z : Assignment) where
   Weighs d entry = ((fraction_of entry.weight).den ∣ d) × ((z entry.point).den ∣ d)
 
   abbrev Binds : ℕ → ℕ × Ratio → Type 0
-  Binds d m = ((fraction_of m.1).den ∣ d) × AllByRecursion (Weighs d) (equation_at s m.0).entries
+  Binds d m = ((fraction_of m.1).den ∣ d) × AllByRecursion (Weighs d) (equation_at s.equations m.0).entries
 
   abbrev Ends : (ℕ → Fraction) → ℕ → ℕ × Ratio → Type 0
   Ends end d m = ((fraction_of m.1).den ∣ d) × (((end m.0).den ∣ d) × ((z (point_at s m.0)).den ∣ d))
@@ -81,7 +81,7 @@ module _ (s : Constraints) (r : Multipliers) (z : Assignment) where
 
   serving : (d : ℕ) × (0 < d) × Serves d
   serving = common_of (common_both
-      (common_all Binds r.bindings (λ m. common_both (common_den (fraction_of m.1)) (common_all Weighs (equation_at s m.0).entries (λ e. common_both (common_den (fraction_of e.weight)) (common_den (z e.point))))))
+      (common_all Binds r.bindings (λ m. common_both (common_den (fraction_of m.1)) (common_all Weighs (equation_at s.equations m.0).entries (λ e. common_both (common_den (fraction_of e.weight)) (common_den (z e.point))))))
       (common_both (common_all (Ends (low_at s)) r.lows (ends_common (low_at s))) (common_all (Ends (high_at s)) r.highs (ends_common (high_at s)))))
 
   module _ (d : ℕ) (p : 0 < d) (serves : Serves d) where
@@ -89,7 +89,7 @@ module _ (s : Constraints) (r : Multipliers) (z : Assignment) where
     whole_of = record {
       n = s.points;
       d = d;
-      rows = λ i. entries_scaled d (equation_at s i).entries;
+      rows = λ i. entries_scaled d (equation_at s.equations i).entries;
       of = point_at s;
       low = λ k. up d (low_at s k);
       high = λ k. up d (high_at s k);
@@ -107,8 +107,8 @@ module _ (s : Constraints) (r : Multipliers) (z : Assignment) where
     units_weighed : (j : ℕ) (es : List Entry) → AllByRecursion (Weighs d) es → SameNumber (weighed es (unit_at j)) (ratio (total (entries_scaled d es) (one_at j)) (d * 1) (mul-pos p one_positive))
     units_weighed j es a = weighed_stands d 1 p one_positive es (unit_at j) (one_at j) (all_alike (Weighs d) _ es (λ e h. (h.0, unit_stands j e.point)) a)
 
-    units_bound : (j : ℕ) → SameNumber (listed.total r.bindings (λ i. weighed (equation_at s i).entries (unit_at j))) (ratio (total (scaled d r.bindings) (λ i. total (entries_scaled d (equation_at s i).entries) (one_at j))) (d * (d * 1)) (mul-pos p (mul-pos p one_positive)))
-    units_bound j = total_stands d (d * 1) p (mul-pos p one_positive) r.bindings _ _ (all_alike (Binds d) _ r.bindings (λ m h. (h.0, units_weighed j (equation_at s m.0).entries h.1)) serves.0)
+    units_bound : (j : ℕ) → SameNumber (listed.total r.bindings (λ i. weighed (equation_at s.equations i).entries (unit_at j))) (ratio (total (scaled d r.bindings) (λ i. total (entries_scaled d (equation_at s.equations i).entries) (one_at j))) (d * (d * 1)) (mul-pos p (mul-pos p one_positive)))
+    units_bound j = total_stands d (d * 1) p (mul-pos p one_positive) r.bindings _ _ (all_alike (Binds d) _ r.bindings (λ m h. (h.0, units_weighed j (equation_at s.equations m.0).entries h.1)) serves.0)
 
     units_ended : (end : ℕ → Fraction) (ms : List (ℕ × Ratio)) (j : ℕ) → AllByRecursion (Ends end d) ms → SameNumber (listed.total ms (λ k. unit_at j (point_at s k))) (ratio (total (scaled d ms) (λ k. one_at j (point_at s k))) (d * 1) (mul-pos p one_positive))
     units_ended end ms j a = total_stands d 1 p one_positive ms _ _ (all_alike (Ends end d) _ ms (λ m h. (h.0, unit_stands j (point_at s m.0))) a)
@@ -149,8 +149,8 @@ module _ (s : Constraints) (r : Multipliers) (z : Assignment) where
     falls_short (inl h) = inl (less_left tops bottoms (negative_stands (constant s r) _ (d * d) (mul-pos p p) constant_stands h))
     falls_short (inr h) = inr (none_left tops bottoms (zero_stands (constant s r) _ (d * d) (mul-pos p p) constant_stands h.0), opened h.1)
 
-    named : IsSystem s → (m : ℕ × Ratio) → m.0 < length s.equations → AllByRecursion (λ e. e.0 < s.points) (entries_scaled d (equation_at s m.0).entries)
-    named ok m h = all_map (λ e. e.0 < s.points) (λ e. (e.point, up d (fraction_of e.weight))) (equation_at s m.0).entries (recursion_from_All (λ entry. entry.point < s.points) (equation_at s m.0).entries (ok.equations m.0 (record { entries = [] }) h))
+    named : IsSystem s → (m : ℕ × Ratio) → m.0 < length s.equations → AllByRecursion (λ e. e.0 < s.points) (entries_scaled d (equation_at s.equations m.0).entries)
+    named ok m h = all_map (λ e. e.0 < s.points) (λ e. (e.point, up d (fraction_of e.weight))) (equation_at s.equations m.0).entries (recursion_from_All (λ entry. entry.point < s.points) (equation_at s.equations m.0).entries (ok.equations m.0 (record { entries = [] }) h))
 
     contradicts : IsSystem s → IsContradiction s r → Contradicts whole_of
     contradicts ok c = record {
@@ -206,9 +206,9 @@ module _ (s : Constraints) (r : Multipliers) (z : Assignment) where
 
     meets : IsContradiction s r → Passes s r z → Meets whole_of (λ k. up d (z k))
     meets c h = record {
-      bindings = all_map _ (λ m. (m.0, up d (fraction_of m.1))) r.bindings (all_alike (λ m. Holds (equation_at s m.0) z × Binds d m) _ r.bindings
-          (λ m w. zero_stands (weighed (equation_at s m.0).entries z) _ (d * d) (mul-pos p p) (rows_weighed (equation_at s m.0).entries w.1.1) w.0)
-          (all_both (λ m. Holds (equation_at s m.0) z) (Binds d) r.bindings (recursion_from_All (λ m. Holds (equation_at s m.0) z) r.bindings h.bindings) serves.0));
+      bindings = all_map _ (λ m. (m.0, up d (fraction_of m.1))) r.bindings (all_alike (λ m. Holds (equation_at s.equations m.0) z × Binds d m) _ r.bindings
+          (λ m w. zero_stands (weighed (equation_at s.equations m.0).entries z) _ (d * d) (mul-pos p p) (rows_weighed (equation_at s.equations m.0).entries w.1.1) w.0)
+          (all_both (λ m. Holds (equation_at s.equations m.0) z) (Binds d) r.bindings (recursion_from_All (λ m. Holds (equation_at s.equations m.0) z) r.bindings h.bindings) serves.0));
       lows = all_map _ (λ m. (m.0, up d (fraction_of m.1))) r.lows (all_alike (Counts (low_at s)) _ r.lows
           (λ m w. (grows m w.0.0 w.1.1.0, low_less m.0 w.0.1 w.1.0 w.1.1.1.0 w.1.1.1.1))
           (known_ends (low_at s) r.lows c.kept.lows_positive c.lows h.lows serves.1.0));

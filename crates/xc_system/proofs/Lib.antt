@@ -1,6 +1,9 @@
 pub mod Contradictions
 pub mod Excluding
+pub mod Joins
 pub mod Linking
+pub mod Numbering
 pub mod Parts
+pub mod Pointers
 pub mod Scaling
 pub mod Totals

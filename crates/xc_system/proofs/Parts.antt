@@ -27,8 +27,8 @@ weighed_alike [] y z h = refl
 weighed_alike (e ∷ es) y z h = ap₂ sum_of (ap (product_of (fraction_of e.weight)) (h e.point (inl refl))) (weighed_alike es y z (λ p i. h p (inr i)))
 
 -- every point of an equation is one of the system's
-pub point_within : (s : Constraints) (i p : ℕ) → IsSystem s → HasPoint s i p → p < s.points
-point_within s i p ok h = by (equation_at s i).entries (recursion_from_All (λ entry. entry.point < s.points) (equation_at s i).entries (ok.equations i (record { entries = [] }) (has_within s i p h))) h
+pub point_within : (s : Constraints) (i p : ℕ) → IsSystem s → HasPoint s.equations i p → p < s.points
+point_within s i p ok h = by (equation_at s.equations i).entries (recursion_from_All (λ entry. entry.point < s.points) (equation_at s.equations i).entries (ok.equations i (record { entries = [] }) (has_within s.equations i p h))) h
   where
     by : (es : List Entry) → AllByRecursion (λ entry. entry.point < s.points) es → IsIn p (map (λ e. e.point) es) → p < s.points
     by [] a h = absurd h
@@ -48,9 +48,9 @@ joined_solve s cs each z ok are joins solve = record { admitted = admitted; met 
     met i equation there [] none = ap (λ (es : List Entry). (weighed es z).num) none
     met i equation there (e ∷ es) some = go (are.all e.point (point_within s i e.point ok has))
       where
-        same : equation_at s i ≡ equation
+        same : equation_at s.equations i ≡ equation
         same = get_or_from_slice_get s.equations i equation (record { entries = [] }) there
-        has : HasPoint s i e.point
+        has : HasPoint s.equations i e.point
         has = subst (λ (q : Equation). IsIn e.point (points_of q)) (sym same) (subst (λ (xs : List Entry). IsIn e.point (map (λ x. x.point) xs)) (sym some) (inl refl))
         go : ((j : ℕ) × Holding cs e.point j) → Holds equation z
         go (j, h) = subst IsZero (sym (weighed_alike equation.entries z (each j) (λ p at. joins j p h.component h.there (inside p at)))) ((solve j h.component h.there).met i equation there ((is.equations i).1 (e.point, has, h.has)))
@@ -58,7 +58,7 @@ joined_solve s cs each z ok are joins solve = record { admitted = admitted; met 
             is : IsComponent s h.component
             is = are.each j h.component h.there
             inside : (p : ℕ) → IsIn p (points_of equation) → IsIn p h.component.points
-            inside p at = let there : HasPoint s i p = subst (λ (q : Equation). IsIn p (points_of q)) (sym same) at in closed s h.component is i e.point p (point_within s i p ok there) h.has has there
+            inside p at = let there : HasPoint s.equations i p = subst (λ (q : Equation). IsIn p (points_of q)) (sym same) at in closed s h.component is i e.point p (point_within s i p ok there) h.has has there
 
 pub parts_solved : PartsSolved
 parts_solved s c z h = record { admitted = λ k bound there own. h.admitted k bound there; met = λ i equation there own. h.met i equation there }
@@ -89,10 +89,10 @@ all_zero P of [] h a = tt
 all_zero P of (m ∷ ms) h a = (h m a.0, all_zero P of ms h a.1)
 
 -- a point counts as nothing where it counts as nothing in each of the three
-no_coefficient : (s : Constraints) (r : Multipliers) (j : ℕ) → IsZero (total r.bindings (λ i. weighed (equation_at s i).entries (unit_at j)))
+no_coefficient : (s : Constraints) (r : Multipliers) (j : ℕ) → IsZero (total r.bindings (λ i. weighed (equation_at s.equations i).entries (unit_at j)))
     → IsZero (total r.lows (λ k. unit_at j (point_at s k))) → IsZero (total r.highs (λ k. unit_at j (point_at s k))) → IsZero (coefficient s r j)
 no_coefficient s r j a b c =
-    zero_sum (total r.bindings (λ i. weighed (equation_at s i).entries (unit_at j))) (difference_of (total r.lows (λ k. unit_at j (point_at s k))) (total r.highs (λ k. unit_at j (point_at s k)))) a
+    zero_sum (total r.bindings (λ i. weighed (equation_at s.equations i).entries (unit_at j))) (difference_of (total r.lows (λ k. unit_at j (point_at s k))) (total r.highs (λ k. unit_at j (point_at s k)))) a
     (zero_sum (total r.lows (λ k. unit_at j (point_at s k))) (neg_of (total r.highs (λ k. unit_at j (point_at s k)))) b (zero_neg (total r.highs (λ k. unit_at j (point_at s k))) c))
 
 pub part_contradicts : PartContradicts
@@ -105,8 +105,8 @@ part_contradicts s c r ok is h = record {
   short = h.short;
 }
   where
-    within : (i : ℕ) → ((p : ℕ) × HasPoint s i p × IsIn p c.points) → i < length s.equations
-    within i (p, has, at) = has_within s i p has
+    within : (i : ℕ) → ((p : ℕ) × HasPoint s.equations i p × IsIn p c.points) → i < length s.equations
+    within i (p, has, at) = has_within s.equations i p has
 
     elsewhere : (j p : ℕ) → (IsIn j c.points → ⊥) → IsIn p c.points → p ≢ j
     elsewhere j p out at e = out (subst (λ (q : ℕ). IsIn q c.points) e at)
@@ -120,8 +120,8 @@ part_contradicts s c r ok is h = record {
     cancels j (inl at) = h.cancels j at
     cancels j (inr out) =
         no_coefficient s r j
-        (total_none r.bindings (λ i. weighed (equation_at s i).entries (unit_at j)) (all_zero (λ m. IsIn m.0 c.equations) (λ i. weighed (equation_at s i).entries (unit_at j)) r.bindings
-            (λ m own. weighed_none j (equation_at s m.0).entries (λ p has. elsewhere j p out (owned s c is m.0 p (point_within s m.0 p ok has) own has)))
+        (total_none r.bindings (λ i. weighed (equation_at s.equations i).entries (unit_at j)) (all_zero (λ m. IsIn m.0 c.equations) (λ i. weighed (equation_at s.equations i).entries (unit_at j)) r.bindings
+            (λ m own. weighed_none j (equation_at s.equations m.0).entries (λ p has. elsewhere j p out (owned s c is m.0 p (point_within s m.0 p ok has) own has)))
             (recursion_from_All (λ m. IsIn m.0 c.equations) r.bindings h.bindings)))
         (ended j out r.lows h.lows)
         (ended j out r.highs h.highs)

@@ -4,4 +4,5 @@ pub mod Laws
 pub mod Members
 pub mod Refutations
 pub mod Solutions
+pub mod Steps
 pub mod Systems

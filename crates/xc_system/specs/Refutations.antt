@@ -52,7 +52,7 @@ is_high_open s k = option_map_or (λ interval. is_open interval.high) (range_at 
 
 -- the coefficient in it of the value of point j
 abbrev pub coefficient : Constraints → Multipliers → ℕ → Fraction
-coefficient s r j = sum_of (total r.bindings (λ i. weighed (equation_at s i).entries (unit_at j)))
+coefficient s r j = sum_of (total r.bindings (λ i. weighed (equation_at s.equations i).entries (unit_at j)))
     (difference_of (total r.lows (λ k. unit_at j (point_at s k))) (total r.highs (λ k. unit_at j (point_at s k))))
 
 -- its constant
@@ -102,4 +102,4 @@ AdmitsAt s z k = (bound : Bound) → slice_get s.bounds k ≡ Some bound → May
 pub record Passes (s : Constraints) (r : Multipliers) (z : Assignment) : Type 0 where
   pub lows : All (λ m. AdmitsAt s z m.0) r.lows
   pub highs : All (λ m. AdmitsAt s z m.0) r.highs
-  pub bindings : All (λ m. Holds (equation_at s m.0) z) r.bindings
+  pub bindings : All (λ m. Holds (equation_at s.equations m.0) z) r.bindings

@@ -23,8 +23,8 @@ pub record IsSystem (s : Constraints) : Type 0 where
   pub bounded : (p : ℕ) → p < s.points → HasBound s.bounds p
 
 -- the equation with this number; no entries where there is none
-abbrev pub equation_at : Constraints → ℕ → Equation
-equation_at s i = slice_index_or s.equations i (record { entries = [] })
+abbrev pub equation_at : List Equation → ℕ → Equation
+equation_at equations i = slice_index_or equations i (record { entries = [] })
 
 -- the points of an equation, by its entries
 abbrev pub points_of : Equation → List ℕ

@@ -4,6 +4,7 @@
 
 pub mod laws;
 mod refutation;
+mod roots;
 mod systems;
 mod types;
 

@@ -4,6 +4,7 @@ pub mod Joins
 pub mod Linking
 pub mod Numbering
 pub mod Parts
+pub mod Places
 pub mod Pointers
 pub mod Scaling
 pub mod Totals

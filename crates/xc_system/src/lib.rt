@@ -2,6 +2,7 @@
 //! values of its data points, and the components into which they fall.
 #![tactic(auto)]
 
+mod grouping;
 pub mod laws;
 mod refutation;
 mod roots;

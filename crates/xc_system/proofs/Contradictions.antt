@@ -22,9 +22,9 @@ use Rattle.xc_system.proofs.Totals.{Term, total, one_at, IsLess}
 use Rattle.xc_system.specs.Kept.{Multipliers, IsRefutation}
 use Rattle.xc_system.specs.Laws.{ExcludesPassing, ExcludesSolutions, SolvingMaySolve}
 use Rattle.xc_system.specs.Refutations as listed
-use Rattle.xc_system.specs.Refutations.{IsContradiction, IsKnown, AdmitsAt, Passes, coefficient, constant, lists_open, range_at, point_at, low_at, high_at, is_low_open, is_high_open, unit_at}
+use Rattle.xc_system.specs.Refutations.{IsContradiction, IsKnown, AdmitsAt, Passes, coefficient, constant, lists_open, low_at, high_at, is_low_open, is_high_open, unit_at}
 use Rattle.xc_system.specs.Solutions.{Assignment, IsZero, IsNegative, Admits, MayAdmit, MaySolve, Solves, Holds, weighed}
-use Rattle.xc_system.specs.Systems.{Constraints, IsSystem, equation_at}
+use Rattle.xc_system.specs.Systems.{Constraints, IsSystem, range_at, point_at, equation_at}
 use Rattle.xc_system.specs.declared.types.Bound.{Bound}
 use Rattle.xc_system.specs.declared.types.Entry.{Entry}
 use Rattle.xc_system.specs.declared.types.Equation.{Equation}
@@ -47,7 +47,7 @@ any_map p f [] = refl
 any_map p f (x ∷ xs) = ap (λ b. p (f x) || b) (any_map p f xs)
 
 -- the point of a fact of the system is one of its points
-pub point_known : (s : Constraints) (k : ℕ) → IsSystem s → IsKnown s k → point_at s k < s.points
+pub point_known : (s : Constraints) (k : ℕ) → IsSystem s → IsKnown s k → point_at s.bounds k < s.points
 point_known s k ok h = by (slice_get s.bounds k) refl h
   where
     by : (o : Option Bound) → slice_get s.bounds k ≡ o → IsSomeAnd (option_map_or (λ bound. bound.range) o None) (λ interval. Unit {0}) → option_map_or (λ bound. bound.point) o 0 < s.points
@@ -71,13 +71,13 @@ module _ (s : Constraints) (r : Multipliers) (z : Assignment) where
   Binds d m = ((fraction_of m.1).den ∣ d) × AllByRecursion (Weighs d) (equation_at s.equations m.0).entries
 
   abbrev Ends : (ℕ → Fraction) → ℕ → ℕ × Ratio → Type 0
-  Ends end d m = ((fraction_of m.1).den ∣ d) × (((end m.0).den ∣ d) × ((z (point_at s m.0)).den ∣ d))
+  Ends end d m = ((fraction_of m.1).den ∣ d) × (((end m.0).den ∣ d) × ((z (point_at s.bounds m.0)).den ∣ d))
 
   abbrev Serves : ℕ → Type 0
   Serves d = AllByRecursion (Binds d) r.bindings × (AllByRecursion (Ends (low_at s) d) r.lows × AllByRecursion (Ends (high_at s) d) r.highs)
 
   ends_common : (end : ℕ → Fraction) (m : ℕ × Ratio) → Common (λ d. Ends end d m)
-  ends_common end m = common_both (common_den (fraction_of m.1)) (common_both (common_den (end m.0)) (common_den (z (point_at s m.0))))
+  ends_common end m = common_both (common_den (fraction_of m.1)) (common_both (common_den (end m.0)) (common_den (z (point_at s.bounds m.0))))
 
   serving : (d : ℕ) × (0 < d) × Serves d
   serving = common_of (common_both
@@ -90,7 +90,7 @@ module _ (s : Constraints) (r : Multipliers) (z : Assignment) where
       n = s.points;
       d = d;
       rows = λ i. entries_scaled d (equation_at s.equations i).entries;
-      of = point_at s;
+      of = point_at s.bounds;
       low = λ k. up d (low_at s k);
       high = λ k. up d (high_at s k);
       low_opens = is_low_open s;
@@ -110,8 +110,8 @@ module _ (s : Constraints) (r : Multipliers) (z : Assignment) where
     units_bound : (j : ℕ) → SameNumber (listed.total r.bindings (λ i. weighed (equation_at s.equations i).entries (unit_at j))) (ratio (total (scaled d r.bindings) (λ i. total (entries_scaled d (equation_at s.equations i).entries) (one_at j))) (d * (d * 1)) (mul-pos p (mul-pos p one_positive)))
     units_bound j = total_stands d (d * 1) p (mul-pos p one_positive) r.bindings _ _ (all_alike (Binds d) _ r.bindings (λ m h. (h.0, units_weighed j (equation_at s.equations m.0).entries h.1)) serves.0)
 
-    units_ended : (end : ℕ → Fraction) (ms : List (ℕ × Ratio)) (j : ℕ) → AllByRecursion (Ends end d) ms → SameNumber (listed.total ms (λ k. unit_at j (point_at s k))) (ratio (total (scaled d ms) (λ k. one_at j (point_at s k))) (d * 1) (mul-pos p one_positive))
-    units_ended end ms j a = total_stands d 1 p one_positive ms _ _ (all_alike (Ends end d) _ ms (λ m h. (h.0, unit_stands j (point_at s m.0))) a)
+    units_ended : (end : ℕ → Fraction) (ms : List (ℕ × Ratio)) (j : ℕ) → AllByRecursion (Ends end d) ms → SameNumber (listed.total ms (λ k. unit_at j (point_at s.bounds k))) (ratio (total (scaled d ms) (λ k. one_at j (point_at s.bounds k))) (d * 1) (mul-pos p one_positive))
+    units_ended end ms j a = total_stands d 1 p one_positive ms _ _ (all_alike (Ends end d) _ ms (λ m h. (h.0, unit_stands j (point_at s.bounds m.0))) a)
 
     ends_ended : (end : ℕ → Fraction) (ms : List (ℕ × Ratio)) → AllByRecursion (Ends end d) ms → SameNumber (listed.total ms end) (ratio (total (scaled d ms) (λ k. up d (end k))) (d * d) (mul-pos p p))
     ends_ended end ms a = total_stands d d p p ms end (λ k. up d (end k)) (all_alike (Ends end d) _ ms (λ m h. (h.0, up_stands d p (end m.0) h.1.0)) a)
@@ -163,7 +163,7 @@ module _ (s : Constraints) (r : Multipliers) (z : Assignment) where
     }
 
     -- what the listed facts say of the numbers
-    low_less : (k : ℕ) → IsKnown s k → AdmitsAt s z k → (low_at s k).den ∣ d → (z (point_at s k)).den ∣ d → IsLess (is_low_open s k) (up d (low_at s k)) (up d (z (point_at s k)))
+    low_less : (k : ℕ) → IsKnown s k → AdmitsAt s z k → (low_at s k).den ∣ d → (z (point_at s.bounds k)).den ∣ d → IsLess (is_low_open s k) (up d (low_at s k)) (up d (z (point_at s.bounds k)))
     low_less k known admits below above = by (slice_get s.bounds k) known admits below above
       where
         inside : (g : Option (Interval Ratio)) (x : Fraction) → IsSomeAnd g (λ interval. Unit {0}) → IfSome g (λ interval. HasNumber (numbers_of interval) x)
@@ -177,7 +177,7 @@ module _ (s : Constraints) (r : Multipliers) (z : Assignment) where
         by None known admits below above = absurd known
         by (Some bound) known admits below above = inside bound.range (z bound.point) known (admits bound refl) below above
 
-    high_less : (k : ℕ) → IsKnown s k → AdmitsAt s z k → (high_at s k).den ∣ d → (z (point_at s k)).den ∣ d → IsLess (is_high_open s k) (up d (z (point_at s k))) (up d (high_at s k))
+    high_less : (k : ℕ) → IsKnown s k → AdmitsAt s z k → (high_at s k).den ∣ d → (z (point_at s.bounds k)).den ∣ d → IsLess (is_high_open s k) (up d (z (point_at s.bounds k))) (up d (high_at s k))
     high_less k known admits below above = by (slice_get s.bounds k) known admits below above
       where
         inside : (g : Option (Interval Ratio)) (x : Fraction) → IsSomeAnd g (λ interval. Unit {0}) → IfSome g (λ interval. HasNumber (numbers_of interval) x)

@@ -7,4 +7,5 @@ pub mod Parts
 pub mod Places
 pub mod Pointers
 pub mod Scaling
+pub mod Tightness
 pub mod Totals

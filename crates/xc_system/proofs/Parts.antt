@@ -13,9 +13,9 @@ use Rattle.xc_system.specs.Components.{HasPoint, IsComponent, AreComponents, Hol
 use Rattle.xc_system.specs.Kept.{Multipliers}
 use Rattle.xc_system.specs.Laws.{Joins, JoinedSolve, PartsSolved, PartContradicts}
 use Rattle.xc_system.specs.Members.{IsIn}
-use Rattle.xc_system.specs.Refutations.{IsContradiction, IsContradictionOf, IsKnown, IsKnownIn, coefficient, point_at, total, unit_at}
+use Rattle.xc_system.specs.Refutations.{IsContradiction, IsContradictionOf, IsKnown, IsKnownIn, coefficient, total, unit_at}
 use Rattle.xc_system.specs.Solutions.{Assignment, IsZero, Admits, Holds, SolvesPart, weighed}
-use Rattle.xc_system.specs.Systems.{Constraints, IsSystem, equation_at, points_of}
+use Rattle.xc_system.specs.Systems.{Constraints, IsSystem, range_at, point_at, equation_at, points_of}
 use Rattle.xc_system.specs.declared.types.Bound.{Bound}
 use Rattle.xc_system.specs.declared.types.Component.{Component}
 use Rattle.xc_system.specs.declared.types.Entry.{Entry}
@@ -90,10 +90,10 @@ all_zero P of (m ∷ ms) h a = (h m a.0, all_zero P of ms h a.1)
 
 -- a point counts as nothing where it counts as nothing in each of the three
 no_coefficient : (s : Constraints) (r : Multipliers) (j : ℕ) → IsZero (total r.bindings (λ i. weighed (equation_at s.equations i).entries (unit_at j)))
-    → IsZero (total r.lows (λ k. unit_at j (point_at s k))) → IsZero (total r.highs (λ k. unit_at j (point_at s k))) → IsZero (coefficient s r j)
+    → IsZero (total r.lows (λ k. unit_at j (point_at s.bounds k))) → IsZero (total r.highs (λ k. unit_at j (point_at s.bounds k))) → IsZero (coefficient s r j)
 no_coefficient s r j a b c =
-    zero_sum (total r.bindings (λ i. weighed (equation_at s.equations i).entries (unit_at j))) (difference_of (total r.lows (λ k. unit_at j (point_at s k))) (total r.highs (λ k. unit_at j (point_at s k)))) a
-    (zero_sum (total r.lows (λ k. unit_at j (point_at s k))) (neg_of (total r.highs (λ k. unit_at j (point_at s k)))) b (zero_neg (total r.highs (λ k. unit_at j (point_at s k))) c))
+    zero_sum (total r.bindings (λ i. weighed (equation_at s.equations i).entries (unit_at j))) (difference_of (total r.lows (λ k. unit_at j (point_at s.bounds k))) (total r.highs (λ k. unit_at j (point_at s.bounds k)))) a
+    (zero_sum (total r.lows (λ k. unit_at j (point_at s.bounds k))) (neg_of (total r.highs (λ k. unit_at j (point_at s.bounds k)))) b (zero_neg (total r.highs (λ k. unit_at j (point_at s.bounds k))) c))
 
 pub part_contradicts : PartContradicts
 part_contradicts s c r ok is h = record {
@@ -111,10 +111,10 @@ part_contradicts s c r ok is h = record {
     elsewhere : (j p : ℕ) → (IsIn j c.points → ⊥) → IsIn p c.points → p ≢ j
     elsewhere j p out at e = out (subst (λ (q : ℕ). IsIn q c.points) e at)
 
-    ended : (j : ℕ) → (IsIn j c.points → ⊥) → (ms : List (ℕ × Ratio)) → All (λ m. IsKnownIn s c m.0) ms → IsZero (total ms (λ k. unit_at j (point_at s k)))
+    ended : (j : ℕ) → (IsIn j c.points → ⊥) → (ms : List (ℕ × Ratio)) → All (λ m. IsKnownIn s c m.0) ms → IsZero (total ms (λ k. unit_at j (point_at s.bounds k)))
     ended j out ms known =
-        total_none ms (λ k. unit_at j (point_at s k))
-        (all_zero (λ m. IsKnownIn s c m.0) (λ k. unit_at j (point_at s k)) ms (λ m own. unit_elsewhere j (point_at s m.0) (elsewhere j (point_at s m.0) out own.1)) (recursion_from_All (λ m. IsKnownIn s c m.0) ms known))
+        total_none ms (λ k. unit_at j (point_at s.bounds k))
+        (all_zero (λ m. IsKnownIn s c m.0) (λ k. unit_at j (point_at s.bounds k)) ms (λ m own. unit_elsewhere j (point_at s.bounds m.0) (elsewhere j (point_at s.bounds m.0) out own.1)) (recursion_from_All (λ m. IsKnownIn s c m.0) ms known))
 
     cancels : (j : ℕ) → (IsIn j c.points ⊎ (IsIn j c.points → ⊥)) → IsZero (coefficient s r j)
     cancels j (inl at) = h.cancels j at

@@ -4,5 +4,6 @@ pub mod Laws
 pub mod Members
 pub mod Refutations
 pub mod Solutions
+pub mod Spots
 pub mod Steps
 pub mod Systems

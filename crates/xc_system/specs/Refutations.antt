@@ -11,7 +11,7 @@ use Rattle.xc_model.specs.Ratio.{Ratio, fraction_of}
 use Rattle.xc_system.specs.Kept.{Multipliers, IsRefutation}
 use Rattle.xc_system.specs.Members.{IsIn}
 use Rattle.xc_system.specs.Solutions.{Assignment, IsZero, IsNegative, MayAdmit, Holds, weighed}
-use Rattle.xc_system.specs.Systems.{Constraints, equation_at}
+use Rattle.xc_system.specs.Systems.{Constraints, equation_at, range_at, point_at}
 use Rattle.xc_system.specs.declared.types.Bound.{Bound}
 use Rattle.xc_system.specs.declared.types.Component.{Component}
 
@@ -24,27 +24,19 @@ total (m ∷ ms) of = sum_of (product_of (fraction_of m.1) (of m.0)) (total ms o
 abbrev pub unit_at : ℕ → ℕ → Fraction
 unit_at j p = if p == j then whole (pos 1) else whole (pos 0)
 
--- the interval of fact k, where it is not wide
-abbrev pub range_at : Constraints → ℕ → Option (Interval Ratio)
-range_at s k = option_map_or (λ bound. bound.range) (slice_get s.bounds k) None
-
--- the point of fact k
-abbrev pub point_at : Constraints → ℕ → ℕ
-point_at s k = option_map_or (λ bound. bound.point) (slice_get s.bounds k) 0
-
 -- the values of its ends
 abbrev pub low_at : Constraints → ℕ → Fraction
-low_at s k = option_map_or (λ interval. fraction_of (value_of interval.low)) (range_at s k) (whole (pos 0))
+low_at s k = option_map_or (λ interval. fraction_of (value_of interval.low)) (range_at s.bounds k) (whole (pos 0))
 
 abbrev pub high_at : Constraints → ℕ → Fraction
-high_at s k = option_map_or (λ interval. fraction_of (value_of interval.high)) (range_at s k) (whole (pos 0))
+high_at s k = option_map_or (λ interval. fraction_of (value_of interval.high)) (range_at s.bounds k) (whole (pos 0))
 
 -- and whether they are open
 abbrev pub is_low_open : Constraints → ℕ → Bool
-is_low_open s k = option_map_or (λ interval. is_open interval.low) (range_at s k) false
+is_low_open s k = option_map_or (λ interval. is_open interval.low) (range_at s.bounds k) false
 
 abbrev pub is_high_open : Constraints → ℕ → Bool
-is_high_open s k = option_map_or (λ interval. is_open interval.high) (range_at s k) false
+is_high_open s k = option_map_or (λ interval. is_open interval.high) (range_at s.bounds k) false
 
 -- The combination of a refutation is the sum of multiplier times (value - low end) over the listed low ends, of multiplier times
 -- (high end - value) over the listed high ends, and of multiplier times the sum of weight times value over the listed equations.
@@ -53,7 +45,7 @@ is_high_open s k = option_map_or (λ interval. is_open interval.high) (range_at 
 -- the coefficient in it of the value of point j
 abbrev pub coefficient : Constraints → Multipliers → ℕ → Fraction
 coefficient s r j = sum_of (total r.bindings (λ i. weighed (equation_at s.equations i).entries (unit_at j)))
-    (difference_of (total r.lows (λ k. unit_at j (point_at s k))) (total r.highs (λ k. unit_at j (point_at s k))))
+    (difference_of (total r.lows (λ k. unit_at j (point_at s.bounds k))) (total r.highs (λ k. unit_at j (point_at s.bounds k))))
 
 -- its constant
 abbrev pub constant : Constraints → Multipliers → Fraction
@@ -65,7 +57,7 @@ lists_open s r = list_any (λ m. is_low_open s m.0) r.lows || list_any (λ m. is
 
 -- fact k is one of the system, and not wide
 abbrev pub IsKnown : Constraints → ℕ → Type 0
-IsKnown s k = IsSomeAnd (range_at s k) (λ interval. Unit {0})
+IsKnown s k = IsSomeAnd (range_at s.bounds k) (λ interval. Unit {0})
 
 -- the constant is negative; or it is 0, while a listed end is open
 abbrev pub IsShort : Constraints → Multipliers → Type 0
@@ -83,7 +75,7 @@ pub record IsContradiction (s : Constraints) (r : Multipliers) : Type 0 where
 
 -- fact k is not wide, and of a point of the component
 abbrev pub IsKnownIn : Constraints → Component → ℕ → Type 0
-IsKnownIn s c k = IsKnown s k × IsIn (point_at s k) c.points
+IsKnownIn s c k = IsKnown s k × IsIn (point_at s.bounds k) c.points
 
 -- the refutation contradicts a component: the same of what is its own
 pub record IsContradictionOf (s : Constraints) (c : Component) (r : Multipliers) : Type 0 where

@@ -1,7 +1,11 @@
 -- Systems: what the facts of a report allow for the values of its data points, and the sums that its bindings state. One value is
 -- asked for each point (the joint question is this project's own).
-use Rattle.std.specs.Prelude.{ℕ, ◌==◌, Bool, List, [], map, IsTrue, Option, None, slice_get, slice_index_or, length, ◌<◌, All}
+use Rattle.std.specs.Prelude.{ℕ, ◌==◌, ◌<◌, List, [], map, Option, None, slice_get, slice_index_or, IsTrue, All}
 use Rattle.std.specs.List.{list_any}
+use Rattle.std.specs.Option.{option_map_or}
+use Rattle.xc_interval.specs.declared.interval.Interval.{Interval}
+use Rattle.xc_model.specs.Ratio.{Ratio}
+use Rattle.xc_system.specs.Members.{places_with}
 use Rattle.xc_system.specs.declared.types.Bound.{Bound}
 use Rattle.xc_system.specs.declared.types.Entry.{Entry}
 use Rattle.xc_system.specs.declared.types.Equation.{Equation}
@@ -29,3 +33,15 @@ equation_at equations i = slice_index_or equations i (record { entries = [] })
 -- the points of an equation, by its entries
 abbrev pub points_of : Equation → List ℕ
 points_of equation = map (λ entry. entry.point) equation.entries
+
+-- the interval of fact k, where it is not wide
+abbrev pub range_at : List Bound → ℕ → Option (Interval Ratio)
+range_at bounds k = option_map_or (λ bound. bound.range) (slice_get bounds k) None
+
+-- the point of fact k
+abbrev pub point_at : List Bound → ℕ → ℕ
+point_at bounds k = option_map_or (λ bound. bound.point) (slice_get bounds k) 0
+
+-- the facts of a point, ascending
+abbrev pub facts_of : List Bound → ℕ → List ℕ
+facts_of bounds p = places_with (map (λ bound. bound.point) bounds) p

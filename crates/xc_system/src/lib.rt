@@ -6,6 +6,7 @@ mod grouping;
 pub mod laws;
 mod refutation;
 mod roots;
+mod spots;
 mod systems;
 mod types;
 

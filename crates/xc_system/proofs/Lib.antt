@@ -1,5 +1,6 @@
 pub mod Contradictions
 pub mod Excluding
+pub mod FactLists
 pub mod Joins
 pub mod Linking
 pub mod Numbering

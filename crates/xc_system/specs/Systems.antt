@@ -1,6 +1,6 @@
 -- Systems: what the facts of a report allow for the values of its data points, and the sums that its bindings state. One value is
 -- asked for each point (the joint question is this project's own).
-use Rattle.std.specs.Prelude.{ℕ, ◌==◌, ◌<◌, List, [], map, Option, None, slice_get, slice_index_or, IsTrue, All}
+use Rattle.std.specs.Prelude.{ℕ, ◌==◌, ◌<◌, ◌^◌, List, [], length, map, Option, None, slice_get, slice_index_or, IsTrue, All}
 use Rattle.std.specs.List.{list_any}
 use Rattle.std.specs.Option.{option_map_or}
 use Rattle.xc_interval.specs.declared.interval.Interval.{Interval}
@@ -25,6 +25,12 @@ pub record IsSystem (s : Constraints) : Type 0 where
   pub bounds : All (λ bound. bound.point < s.points) s.bounds
   pub equations : All (λ equation. All (λ entry. entry.point < s.points) equation.entries) s.equations
   pub bounded : (p : ℕ) → p < s.points → HasBound s.bounds p
+
+-- a system is small enough for its numbers
+pub record IsSmall (s : Constraints) : Type 0 where
+  pub points : s.points < 2 ^ 31
+  pub bounds : length s.bounds < 2 ^ 31
+  pub equations : length s.equations < 2 ^ 31
 
 -- the equation with this number; no entries where there is none
 abbrev pub equation_at : List Equation → ℕ → Equation

@@ -1,7 +1,7 @@
 -- Joining the points of an equation.
 use Rattle.std.proofs.Common.{◌≡◌, ℕ, zero, suc, ◌+◌, ◌<◌, ◌≤◌, List, [], ◌∷◌, length, map, get_or, ◌⊎◌, inl, inr, refl, sym, ap, ◌∙◌, arith, cond, eqb, max, min, subst}
 use Rattle.std.proofs.lemmas.Bool.{cases_eq, eq-eqb, ne_eqb}
-use Rattle.xc_system.proofs.Linking.{linked_trans, linked_sym}
+use Rattle.xc_system.proofs.Links.{linked_trans, linked_sym}
 use Rattle.xc_system.specs.Components.{HasPoint, IsLinked, itself, by}
 use Rattle.xc_system.specs.Members.{IsIn}
 use Rattle.xc_system.specs.Steps.Roots.{Descends, IsRoots, IsJoined, joined}

@@ -1,8 +1,9 @@
 pub mod Contradictions
 pub mod Excluding
 pub mod FactLists
+pub mod Found
 pub mod Joins
-pub mod Linking
+pub mod Links
 pub mod Numbering
 pub mod Parts
 pub mod Places

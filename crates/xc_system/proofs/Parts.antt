@@ -8,7 +8,7 @@ use Rattle.std.specs.List.{AllByRecursion}
 use Rattle.std.specs.Prelude.{All}
 use Rattle.xc_model.specs.Fraction.{Fraction, whole, sum_of, difference_of, neg_of, product_of}
 use Rattle.xc_model.specs.Ratio.{Ratio, fraction_of}
-use Rattle.xc_system.proofs.Linking.{is_in, has_within, closed, owned}
+use Rattle.xc_system.proofs.Links.{is_in, has_within, closed, owned}
 use Rattle.xc_system.specs.Components.{HasPoint, IsComponent, AreComponents, Holding}
 use Rattle.xc_system.specs.Kept.{Multipliers}
 use Rattle.xc_system.specs.Laws.{Joins, JoinedSolve, PartsSolved, PartContradicts}

@@ -4,12 +4,14 @@
 
 mod grouping;
 pub mod laws;
+mod linking;
 mod refutation;
 mod roots;
 mod spots;
 mod systems;
 mod types;
 
+pub use linking::components;
 pub use refutation::Refutation;
 pub use systems::System;
 pub use types::{Bound, Certificate, Component, Entry, Equation, Side, Spot};

@@ -1,4 +1,5 @@
 pub mod Components
+pub mod Forests
 pub mod Kept
 pub mod Laws
 pub mod Members

@@ -1,3 +1,4 @@
 pub mod Indexed
+pub mod Measured
 pub mod Owned
 pub mod Roots

@@ -2,16 +2,20 @@
 //! values of its data points, and the components into which they fall.
 #![tactic(auto)]
 
+mod forests;
 mod grouping;
 pub mod laws;
 mod linking;
 mod refutation;
 mod roots;
+mod scratch;
 mod spots;
 mod systems;
 mod types;
 
+pub use forests::is_narrow_forest;
 pub use linking::components;
 pub use refutation::Refutation;
+pub use scratch::Scratch;
 pub use systems::System;
 pub use types::{Bound, Certificate, Component, Entry, Equation, Side, Spot};

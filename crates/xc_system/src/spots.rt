@@ -44,8 +44,8 @@ fn range_of(first: u32, others: &[u32], bounds: &[Bound]) -> Range
     range
 }
 
-// The interval of a fact; None where it is wide.
-fn interval_of(fact: u32, bounds: &[Bound]) -> Option<Interval<Frac>>
+/// The interval of a fact; None where it is wide.
+pub fn interval_of(fact: u32, bounds: &[Bound]) -> Option<Interval<Frac>>
     requires { fact < length bounds.now }
     ensures { result ≡ range_at bounds.now fact }
 {

@@ -4,6 +4,7 @@ pub mod FactLists
 pub mod Found
 pub mod Joins
 pub mod Links
+pub mod Narrowness
 pub mod Numbering
 pub mod Parts
 pub mod Places

@@ -1,7 +1,10 @@
+pub mod Acyclic
 pub mod Contradictions
+pub mod Counts
 pub mod Excluding
 pub mod FactLists
 pub mod Found
+pub mod Graphs
 pub mod Joins
 pub mod Links
 pub mod Narrowness
@@ -12,3 +15,4 @@ pub mod Pointers
 pub mod Scaling
 pub mod Tightness
 pub mod Totals
+pub mod Trees

@@ -24,22 +24,25 @@ pub fn is_narrow_forest(system: &System, component: &Component, scratch: &mut Sc
     ensures scratch { scratch.new ≡ scratch.old }
 {
     let _untouched = scratch;
-    let equations = component.equations.as_slice();
-    if !has_no_cycle(component.points.as_slice().len(), equations, system.equations()) {
+    if !has_no_cycle(component, system) {
         return false;
     }
-    if !have_unit_weights(equations, system.equations()) {
+    if !have_unit_weights(component, system) {
         return false;
     }
     is_narrow(component, system)
 }
 
-// Whether linked points and equations make no cycle, none with a point twice: by the number of entries.
-fn has_no_cycle(points: usize, numbers: &[u32], equations: &[Equation]) -> bool
-    requires { All (λ i. i < length equations.now) numbers.now }
-    ensures { IsTrue result ↔ (entries_of equations.now numbers.now + 1 ≡ points + length numbers.now) }
+// Whether linked points and equations make no cycle, and no equation has a point twice, by the number of entries.
+fn has_no_cycle(component: &Component, system: &System) -> bool
+    requires { All (λ i. i < length system.now.equations) component.now.equations }
+    ensures is { IsTrue result ↔ (entries_of system.now.equations component.now.equations + 1
+        ≡ length component.now.points + length component.now.equations) }
+    ensures system { IsSystem system.now }
 {
-    entries_in(numbers, equations) + 1 == points as u128 + numbers.len() as u128
+    let points = component.points.as_slice().len() as u128;
+    let equations = component.equations.as_slice();
+    entries_in(equations, system.equations()) + 1 == points + equations.len() as u128
 }
 
 // How many entries these equations have.
@@ -64,13 +67,13 @@ fn length_of(number: u32, equations: &[Equation]) -> u128
     equations[number as usize].entries.as_slice().len() as u128
 }
 
-// Whether all weights of these equations are 1 or -1.
-fn have_unit_weights(numbers: &[u32], equations: &[Equation]) -> bool
-    requires { All (λ i. i < length equations.now) numbers.now }
-    ensures { IsTrue result ↔ All (λ i. All (λ entry. IsUnit entry.weight) (equation_at equations.now i).entries) numbers.now }
+// Whether all weights are 1 or -1.
+fn have_unit_weights(component: &Component, system: &System) -> bool
+    requires { All (λ i. i < length system.now.equations) component.now.equations }
+    ensures { IsTrue result ↔ All (λ i. All (λ entry. IsUnit entry.weight) (equation_at system.now.equations i).entries) component.now.equations }
 {
-    for number in numbers {
-        if !has_unit_weights(*number, equations) {
+    for number in component.equations.as_slice() {
+        if !has_unit_weights(*number, system.equations()) {
             return false;
         }
     }

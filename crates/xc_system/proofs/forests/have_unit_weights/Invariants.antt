@@ -5,4 +5,4 @@ use Rattle.xc_system.specs.Systems.{equation_at}
 use Rattle.xc_system.proofs.forests.have_unit_weights.Given as goal
 
 abbrev pub invariant-loop-number : goal.invariant-loop-number
-invariant-loop-number l = (k d : ℕ) → k < l.number-index → All (λ entry. IsUnit entry.weight) (equation_at l.equations (get_or l.numbers k d)).entries
+invariant-loop-number l = (k d : ℕ) → k < l.number-index → All (λ entry. IsUnit entry.weight) (equation_at l.system.equations (get_or l.number-items k d)).entries

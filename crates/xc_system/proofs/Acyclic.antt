@@ -83,9 +83,9 @@ module _ (s : Constraints) (c : Component) (is : IsComponent s c) (named : (i p 
 
   vertex_of : (v : ℕ) → IsIn v (vertices s.points c.points c.equations) → IsOf c (vertex s.points v)
   vertex_of v h = elim (in_either v c.points (map (λ j. s.points + j) c.equations) h) [
-      inl a ↦ subst (IsOf c) (sym (vertex_point s.points v (below s c is named v a))) a
+    | inl a ↦ subst (IsOf c) (sym (vertex_point s.points v (below s c is named v a))) a
     | inr b ↦ from (from_map s.points v c.equations b)
-    ]
+  ]
     where
       from : ((j : ℕ) × IsIn j c.equations × (v ≡ s.points + j)) → IsOf c (vertex s.points v)
       from (j, a, e) = subst (IsOf c) (sym (ap (vertex s.points) e ∙ vertex_equation s.points j)) a
@@ -137,6 +137,7 @@ module _ (s : Constraints) (c : Component) (is : IsComponent s c) (named : (i p 
       joined u x i e h =
           let k : 0 < joins (has s.points s.equations) (number s.points (vertex s.points v)) (number s.points (vertex s.points x)) = next_joins (vertex s.points v) (vertex s.points x) (vertex_of v (known v (inl refl))) (vertex_of x (known x (inr i))) (subst (IsNext s.equations (vertex s.points v)) e h) in
           subst (λ (y : ℕ). 0 < joins (has s.points s.equations) v y) (number_vertex s.points x) (subst (λ (y : ℕ). 0 < joins (has s.points s.equations) y (number s.points (vertex s.points x))) (number_vertex s.points v) k)
+
       same : (u w : Vertex) → ((x : ℕ) × IsIn x us × (u ≡ vertex s.points x)) → ((x : ℕ) × IsIn x us × (w ≡ vertex s.points x)) → IsNext s.equations (vertex s.points v) u → IsNext s.equations (vertex s.points v) w → u ≡ w
       same u w (x, a, e) (y, b, f) m n = e ∙ ap (vertex s.points) (t.0 x y a b (joined u x a e m) (joined w y b f n)) ∙ sym f
 
@@ -155,7 +156,8 @@ module _ (s : Constraints) (c : Component) (is : IsComponent s c) (named : (i p 
           all = λ v. (λ h. there v (mapped_from (vertex s.points) v us h), λ h. subst (λ (u : Vertex). IsIn u (map (vertex s.points) us)) (back v h) (in_mapped (vertex s.points) (number s.points v) us (l.listed (number s.points v) (of_vertex v h))));
           thin = thin_vertices us l.known t;
         },
-        once_equations (λ u w a b. simple u w (l.listed u a) (l.listed w b)))
+        once_equations (λ u w a b. simple u w (l.listed u a) (l.listed w b)),
+      )
         where
           there : (v : Vertex) → ((x : ℕ) × IsIn x us × (v ≡ vertex s.points x)) → IsOf c v
           there v (x, i, e) = subst (IsOf c) (sym e) (vertex_of x (l.known x i))
@@ -167,6 +169,7 @@ module _ (s : Constraints) (c : Component) (is : IsComponent s c) (named : (i p 
     where
       next : (u : ℕ) (x : Vertex) → IsIn x vs → u ≡ number s.points x → 0 < joins (has s.points s.equations) (number s.points v) u → IsNext s.equations v x
       next u x i e h = joins_next v x (known v (inl refl)) (known x (inr i)) (subst (λ (y : ℕ). 0 < joins (has s.points s.equations) (number s.points v) y) e h)
+
       same : (u w : ℕ) → ((x : Vertex) × IsIn x vs × (u ≡ number s.points x)) → ((x : Vertex) × IsIn x vs × (w ≡ number s.points x)) → 0 < joins (has s.points s.equations) (number s.points v) u → 0 < joins (has s.points s.equations) (number s.points v) w → u ≡ w
       same u w (x, a, e) (y, b, f) m n = e ∙ ap (number s.points) (t.0 x y a b (next u x a e m) (next w y b f n)) ∙ sym f
 
@@ -187,6 +190,7 @@ module _ (s : Constraints) (c : Component) (is : IsComponent s c) (named : (i p 
     where
       injective : (x y : Vertex) → IsIn x f.order → IsIn y f.order → number s.points x ≡ number s.points y → x ≡ y
       injective x y a b e = sym (back x ((f.all x).0 a)) ∙ ap (vertex s.points) e ∙ back y ((f.all y).0 b)
+
       listing : IsListingOf (vertices s.points c.points c.equations) (map (number s.points) f.order)
       listing = record {
         distinct = once_mapped (number s.points) f.order injective f.once;
@@ -196,6 +200,7 @@ module _ (s : Constraints) (c : Component) (is : IsComponent s c) (named : (i p 
         where
           known : (v : ℕ) → ((x : Vertex) × IsIn x f.order × (v ≡ number s.points x)) → IsIn v (vertices s.points c.points c.equations)
           known v (x, i, e) = subst (λ (u : ℕ). IsIn u (vertices s.points c.points c.equations)) (sym e) (of_vertex x ((f.all x).0 i))
+
       simple : IsSimple (has s.points s.equations) (map (number s.points) f.order)
       simple u v a b = at u v (mapped_from (number s.points) u f.order a) (mapped_from (number s.points) v f.order b)
         where
@@ -215,6 +220,7 @@ equations_inside s c is = All-from_recursion (λ i. i < length s.equations) c.eq
   where
     within : (i : ℕ) → ((p : ℕ) × HasPoint s.equations i p × IsIn p c.points) → i < length s.equations
     within i (p, has, at) = has_within s.equations i p has
+
     by : (xs : List ℕ) → ((p : ℕ) → IsIn p xs → p < length s.equations) → AllByRecursion (λ p. p < length s.equations) xs
     by [] h = tt
     by (x ∷ xs) h = (h x (inl refl), by xs (λ p i. h p (inr i)))

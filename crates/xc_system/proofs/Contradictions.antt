@@ -171,6 +171,7 @@ module _ (s : Constraints) (r : Multipliers) (z : Assignment) where
             → IsLess (option_map_or (λ interval. is_open interval.low) g false) (up d (option_map_or (λ interval. fraction_of (value_of interval.low)) g (whole (pos 0)))) (up d x)
         inside None x known has below above = absurd known
         inside (Some g) x known has below above = past_ratio g.low x _ _ d p (up_stands d p (fraction_of (value_of g.low)) below) (up_stands d p x above) has.low
+
         by : (o : Option Bound) → IsSomeAnd (option_map_or (λ bound. bound.range) o None) (λ interval. Unit {0}) → ((bound : Bound) → o ≡ Some bound → MayAdmit bound (z bound.point))
             → (option_map_or (λ interval. fraction_of (value_of interval.low)) (option_map_or (λ bound. bound.range) o None) (whole (pos 0))).den ∣ d → (z (option_map_or (λ bound. bound.point) o 0)).den ∣ d
             → IsLess (option_map_or (λ interval. is_open interval.low) (option_map_or (λ bound. bound.range) o None) false) (up d (option_map_or (λ interval. fraction_of (value_of interval.low)) (option_map_or (λ bound. bound.range) o None) (whole (pos 0)))) (up d (z (option_map_or (λ bound. bound.point) o 0)))
@@ -185,6 +186,7 @@ module _ (s : Constraints) (r : Multipliers) (z : Assignment) where
             → IsLess (option_map_or (λ interval. is_open interval.high) g false) (up d x) (up d (option_map_or (λ interval. fraction_of (value_of interval.high)) g (whole (pos 0))))
         inside None x known has below above = absurd known
         inside (Some g) x known has below above = before_ratio g.high x _ _ d p (up_stands d p (fraction_of (value_of g.high)) below) (up_stands d p x above) has.high
+
         by : (o : Option Bound) → IsSomeAnd (option_map_or (λ bound. bound.range) o None) (λ interval. Unit {0}) → ((bound : Bound) → o ≡ Some bound → MayAdmit bound (z bound.point))
             → (option_map_or (λ interval. fraction_of (value_of interval.high)) (option_map_or (λ bound. bound.range) o None) (whole (pos 0))).den ∣ d → (z (option_map_or (λ bound. bound.point) o 0)).den ∣ d
             → IsLess (option_map_or (λ interval. is_open interval.high) (option_map_or (λ bound. bound.range) o None) false) (up d (z (option_map_or (λ bound. bound.point) o 0))) (up d (option_map_or (λ interval. fraction_of (value_of interval.high)) (option_map_or (λ bound. bound.range) o None) (whole (pos 0))))

@@ -100,9 +100,11 @@ at_most_one (x ∷ xs) f d b o = go (zero_or (f x)) (at_most_one xs f d.1 (λ v 
   where
     zero_or : (n : ℕ) → (n ≡ 0) ⊎ (0 < n)
     zero_or n = grind arith
+
     none : 0 < f x → (v : ℕ) → IsIn v xs → ((f v ≡ 0) ⊎ (0 < f v)) → f v ≡ 0
     none p v i (inl e) = e
     none p v i (inr q) = absurd (d.0 (subst (λ (y : ℕ). IsIn y xs) (o v x (inr i) (inl refl) q p) i))
+
     go : ((f x ≡ 0) ⊎ (0 < f x)) → sum_on xs f ≤ 1 → f x + sum_on xs f ≤ 1
     go (inl e) i = omega arith
     go (inr p) i =
@@ -161,15 +163,19 @@ grown_thin has (v ∷ w ∷ vs) o g l = go (grown_thin has (w ∷ vs) o g.1)
   where
     more : edges has (v ∷ w ∷ vs) ≡ sum_on (w ∷ vs) (joins has v) + edges has (w ∷ vs)
     more = edges_more has v (w ∷ vs) (o v)
+
     rest : length (w ∷ vs) ≤ edges has (w ∷ vs) + 1
     rest = grown_edges has (w ∷ vs) o g.1
+
     one : sum_on (w ∷ vs) (joins has v) ≤ 1
     one = omega (arith, more, rest, l)
+
     go : (edges has (w ∷ vs) + 1 ≤ length (w ∷ vs) → IsThinBy has (w ∷ vs) × IsSimple has (w ∷ vs)) → IsThinBy has (v ∷ w ∷ vs) × IsSimple has (v ∷ w ∷ vs)
     go f = ((one_next has v (w ∷ vs) one, r.0), simple)
       where
         r : IsThinBy has (w ∷ vs) × IsSimple has (w ∷ vs)
         r = f (omega (arith, more, g.0, l))
+
         simple : (a b : ℕ) → IsIn a (v ∷ w ∷ vs) → IsIn b (v ∷ w ∷ vs) → joins has a b ≤ 1
         simple a b (inl e) (inl q) = let z : has v v ≡ 0 = o v in rw (e, q) (omega arith)
         simple a b (inl e) (inr j) = let k : joins has v b ≤ sum_on (w ∷ vs) (joins has v) = member_le (w ∷ vs) (joins has v) b j in rw e (omega (arith, k, one))
@@ -251,6 +257,7 @@ count_from_thin has vs us h l t s = go (grown has vs h)
         filled : (xs : List ℕ) → IsIn h.first xs → 0 < length xs
         filled [] i = absurd i
         filled (x ∷ xs) i = omega arith
+
     go : ((ws : List ℕ) × IsListingOf vs ws × IsGrown has ws) → edges has vs + 1 ≡ length vs
     go u =
         let a : edges has vs ≡ edges has u.0 = same_edges has vs u.0 h.distinct u.1 in

@@ -66,9 +66,9 @@ clash false l h m k (inr c) = absurd (false≢true c.1)
 pub excluded : (w : Whole) (z : ℕ → ℤ) → Contradicts w → Meets w z → ⊥
 excluded w z c p =
     let none : total w.bindings (λ i. total (w.rows i) z) +ℤ pos w.d *ℤ (total w.lows (λ k. z (w.of k)) -ℤ total w.highs (λ k. z (w.of k))) ≡ pos 0 =
-        by_counts w c z ∙ sum_of_zeros w.n _ (λ j h. let e : counts w j ≡ pos 0 = c.cancels j h in rw e (omega (arith, ints))) in
+    by_counts w c z ∙ sum_of_zeros w.n _ (λ j h. let e : counts w j ≡ pos 0 = c.cancels j h in rw e (omega (arith, ints))) in
     let rows : total w.bindings (λ i. total (w.rows i) z) ≡ pos 0 = total_same w.bindings _ _ p.bindings ∙ total_zero w.bindings in
     let same : total w.lows (λ k. z (w.of k)) ≡ total w.highs (λ k. z (w.of k)) = same_values w.d _ _ c.positive (rw rows at none) in
     let k : IsLess (list_any (λ t. w.low_opens t.0) w.lows || list_any (λ t. w.high_opens t.0) w.highs) (total w.lows w.low +ℤ total w.highs (λ k. z (w.of k))) (total w.lows (λ k. z (w.of k)) +ℤ total w.highs w.high) =
-        less_plus _ _ _ _ _ _ (total_less w.lows w.low_opens w.low (λ k. z (w.of k)) p.lows) (total_less w.highs w.high_opens (λ k. z (w.of k)) w.high p.highs) in
+    less_plus _ _ _ _ _ _ (total_less w.lows w.low_opens w.low (λ k. z (w.of k)) p.lows) (total_less w.highs w.high_opens (λ k. z (w.of k)) w.high p.highs) in
     clash _ (total w.lows w.low) (total w.highs w.high) (total w.highs (λ k. z (w.of k))) (rw same at k) c.short

@@ -41,6 +41,7 @@ rank_tells up q r own_q own_r e = go (three q r)
   where
     three : (q r : ℕ) → ((q < r) ⊎ (r < q)) ⊎ (q ≡ r)
     three q r = grind arith
+
     go : ((q < r) ⊎ (r < q)) ⊎ (q ≡ r) → q ≡ r
     go (inr same) = same
     go (inl (inl h)) = let l : rank up q < rank up r = rank_own up q r own_q h in absurd (omega arith)
@@ -59,12 +60,14 @@ rank_reached up (suc n) k h = go (cases_eq (get_or up n 0) n) (rank_reached up n
   where
     later : Root up n k → Root up (suc n) k
     later r = let l = r.below in record { root = r.root; below = omega arith; own = r.own; number = r.number }
+
     go : ((get_or up n 0 ≡ n) ⊎ (get_or up n 0 ≡ n → ⊥)) → (k < rank up n → Root up n k) → Root up (suc n) k
     go (inr other) f = later (f (let e : rank up (suc n) ≡ rank up n + 0 = ap (λ (t : Bool). rank up n + cond t 1 0) (ne_eqb (get_or up n 0) n other) in omega arith))
     go (inl own) f = at (two k (rank up n) (let e : rank up (suc n) ≡ rank up n + 1 = ap (λ (t : Bool). rank up n + cond t 1 0) (eq-eqb (get_or up n 0) n own) in omega arith))
       where
         two : (k m : ℕ) → k < m + 1 → (k < m) ⊎ (m ≡ k)
         two k m h = grind arith
+
         at : (k < rank up n) ⊎ (rank up n ≡ k) → Root up (suc n) k
         at (inl l) = later (f l)
         at (inr e) = record { root = n; below = omega arith; own = own; number = e }
@@ -174,6 +177,7 @@ module _ (s : Constraints) (up ns : List ℕ) (joined : IsJoined s.equations (le
             let g = in_places os k i h in
             let l : i < length s.equations = subst (λ (m : ℕ). i < m) (length-map s.equations (owner_of ns (rank up s.points))) g.0 in
             owned_by i (equation_at s.equations i).entries refl (sym (owner_at i l) ∙ g.1)
+
         back : (p : ℕ) × HasPoint s.equations i p × IsIn p (places_with ns k) → IsIn i (places_with os k)
         back (p, has, at) =
             let l : i < length s.equations = has_within s.equations i p has in
@@ -222,6 +226,7 @@ module _ (s : Constraints) (up ns : List ℕ) (joined : IsJoined s.equations (le
             where
               two : (a r : ℕ) → (a < r) ⊎ (r ≤ a)
               two a r = grind arith
+
               at : (a < r) ⊎ (r ≤ a) → least_of b < least_of c
               at (inl h) = omega arith
               at (inr h) = absurd (omega (arith, g h))
@@ -246,5 +251,5 @@ found s es up ns os ps qs cs n count points equations up_length joined ns_length
     let o : os ≡ map (owner_of ns (rank up s.points)) s.equations = os_is ∙ ap₂ (λ (m : ℕ) (e : List Equation). map (owner_of ns m) e) k (sym equations) in
     subst (AreComponents s)
     (sym (cs_is ∙ ap₂ (λ (x y : List (List ℕ)). map component_of (zip x y)) (ps_is ∙ ap (λ (m : ℕ). map (places_with ns) (before m)) k) (qs_is ∙ ap₂ (λ (x : List ℕ) (m : ℕ). map (places_with x) (before m)) o k)
-        ∙ pairs_made ns (map (owner_of ns (rank up s.points)) s.equations) (rank up s.points)))
+    ∙ pairs_made ns (map (owner_of ns (rank up s.points)) s.equations) (rank up s.points)))
     (are_made s up ns j l (ns_length ∙ l) (λ q h. numbers j.root j.roots q (omega arith)) (named_points s.points s.equations a))

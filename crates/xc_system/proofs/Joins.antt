@@ -25,6 +25,7 @@ joined_left root a b = go (cases_eq (root a) (max (root a) (root b)))
   where
     least : (root a ≡ max (root a) (root b) → ⊥) → root a ≡ min (root a) (root b)
     least e = grind arith
+
     go : ((root a ≡ max (root a) (root b)) ⊎ (root a ≡ max (root a) (root b) → ⊥)) → cond (eqb (root a) (max (root a) (root b))) (min (root a) (root b)) (root a) ≡ min (root a) (root b)
     go (inl e) = rw (eq-eqb (root a) (max (root a) (root b)) e)
     go (inr e) = rw (ne_eqb (root a) (max (root a) (root b)) e) (least e)
@@ -34,6 +35,7 @@ joined_right root a b = go (cases_eq (root b) (max (root a) (root b)))
   where
     least : (root b ≡ max (root a) (root b) → ⊥) → root b ≡ min (root a) (root b)
     least e = grind arith
+
     go : ((root b ≡ max (root a) (root b)) ⊎ (root b ≡ max (root a) (root b) → ⊥)) → cond (eqb (root b) (max (root a) (root b))) (min (root a) (root b)) (root b) ≡ min (root a) (root b)
     go (inl e) = rw (eq-eqb (root b) (max (root a) (root b)) e)
     go (inr e) = rw (ne_eqb (root b) (max (root a) (root b)) e) (least e)
@@ -49,11 +51,14 @@ joined_linked es root a b p k h i j = go (cases_eq (root p) (max (root a) (root 
   where
     kept : (root p ≡ max (root a) (root b) → ⊥) → joined root a b p ≡ root p
     kept e = rw (ne_eqb (root p) (max (root a) (root b)) e)
+
     moved : root p ≡ max (root a) (root b) → joined root a b p ≡ min (root a) (root b)
     moved e = rw (eq-eqb (root p) (max (root a) (root b)) e)
+
     through : (a b x y : ℕ) → root p ≡ x → joined root a b p ≡ y → x ≡ root a → y ≡ root b → IsLinked es a b → IsLinked es a (root a) → IsLinked es b (root b) → IsLinked es p y
     through a b x y e f s t k h i =
         subst (λ (w : ℕ). IsLinked es p w) (sym t) (linked_trans es p a (root b) (linked_trans es p (root a) a (subst (λ (w : ℕ). IsLinked es p w) (e ∙ s) j) (linked_sym es a (root a) h)) (linked_trans es a b (root b) k i))
+
     go : ((root p ≡ max (root a) (root b)) ⊎ (root p ≡ max (root a) (root b) → ⊥)) → (((max (root a) (root b) ≡ root a) × (min (root a) (root b) ≡ root b)) ⊎ ((max (root a) (root b) ≡ root b) × (min (root a) (root b) ≡ root a))) → IsLinked es p (joined root a b p)
     go (inr e) o = subst (λ (x : ℕ). IsLinked es p x) (sym (kept e)) j
     go (inl e) (inl o) = subst (λ (x : ℕ). IsLinked es p x) (sym (moved e ∙ o.1)) (linked_trans es p a (root b) (linked_trans es p (root a) a (subst (λ (x : ℕ). IsLinked es p x) (e ∙ o.0) j) (linked_sym es a (root a) h)) (linked_trans es a b (root b) k i))
@@ -83,8 +88,10 @@ partly_more es i row n up now er ln la lb e d r h = record {
   where
     has : (j : ℕ) → j < length row → HasPoint es i (get_or row j 0)
     has j l = subst (IsIn (get_or row j 0)) (sym er) (is_in_at row j l)
+
     link : IsLinked es (get_or row 0 0) (get_or row n 0)
     link = by i (get_or row 0 0) (get_or row n 0) (get_or row n 0) (has 0 (omega arith)) (has n ln) (itself (get_or row n 0))
+
     go : (j : ℕ) → j < n + 1 → ((j ≡ n) ⊎ (j ≡ n → ⊥)) → joined h.root (get_or row 0 0) (get_or row n 0) (get_or row j 0) ≡ joined h.root (get_or row 0 0) (get_or row n 0) (get_or row 0 0)
     go j l (inl q) = rw q (joined_right h.root (get_or row 0 0) (get_or row n 0) ∙ sym (joined_left h.root (get_or row 0 0) (get_or row n 0)))
     go j l (inr q) = joined_same h.root _ _ _ _ (h.first j (omega arith))
@@ -94,8 +101,10 @@ partly_end es i row n up er l h = record { descends = h.descends; root = h.root;
   where
     at_place : (p : ℕ) → ((j : ℕ) × (j < length row) × (get_or row j 0 ≡ p)) → h.root p ≡ h.root (get_or row 0 0)
     at_place p (j, m, e) = ap h.root (sym e) ∙ h.first j (omega arith)
+
     to_first : (p : ℕ) → HasPoint es i p → h.root p ≡ h.root (get_or row 0 0)
     to_first p has = at_place p (place_of p row (subst (IsIn p) er has))
+
     go : (k p q : ℕ) → k < i + 1 → HasPoint es k p → HasPoint es k q → ((k ≡ i) ⊎ (k ≡ i → ⊥)) → h.root p ≡ h.root q
     go k p q m a b (inl e) = to_first p (subst (λ (x : ℕ). HasPoint es x p) e a) ∙ sym (to_first q (subst (λ (x : ℕ). HasPoint es x q) e b))
     go k p q m a b (inr e) = h.joined k p q (omega arith) a b
@@ -120,8 +129,10 @@ root_least up root d h (suc n) p f l = go (cases_eq (get_or up p 0) p) (λ k m. 
   where
     goal : ℕ → Type 0
     goal x = (root x ≤ x) × ((root x < length up) × (get_or up (root x) 0 ≡ root x))
+
     less : (x : ℕ) → x ≤ p → (x ≡ p → ⊥) → x < p
     less x a e = grind arith
+
     go : ((get_or up p 0 ≡ p) ⊎ (get_or up p 0 ≡ p → ⊥)) → (get_or up p 0 < n → get_or up p 0 < length up → (root (get_or up p 0) ≤ get_or up p 0) × ((root (get_or up p 0) < length up) × (get_or up (root (get_or up p 0)) 0 ≡ root (get_or up p 0)))) → (root p ≤ p) × ((root p < length up) × (get_or up (root p) 0 ≡ root p))
     go (inl e) r = let o : root p ≡ p = h.own p l e in rw o (omega arith, (l, e))
     go (inr e) r =

@@ -50,13 +50,16 @@ joined_solve s cs each z ok are joins solve = record { admitted = admitted; met 
       where
         same : equation_at s.equations i ≡ equation
         same = get_or_from_slice_get s.equations i equation (record { entries = [] }) there
+
         has : HasPoint s.equations i e.point
         has = subst (λ (q : Equation). IsIn e.point (points_of q)) (sym same) (subst (λ (xs : List Entry). IsIn e.point (map (λ x. x.point) xs)) (sym some) (inl refl))
+
         go : ((j : ℕ) × Holding cs e.point j) → Holds equation z
         go (j, h) = subst IsZero (sym (weighed_alike equation.entries z (each j) (λ p at. joins j p h.component h.there (inside p at)))) ((solve j h.component h.there).met i equation there ((is.equations i).1 (e.point, has, h.has)))
           where
             is : IsComponent s h.component
             is = are.each j h.component h.there
+
             inside : (p : ℕ) → IsIn p (points_of equation) → IsIn p h.component.points
             inside p at = let there : HasPoint s.equations i p = subst (λ (q : Equation). IsIn p (points_of q)) (sym same) at in closed s h.component is i e.point p (point_within s i p ok there) h.has has there
 
@@ -121,7 +124,7 @@ part_contradicts s c r ok is h = record {
     cancels j (inr out) =
         no_coefficient s r j
         (total_none r.bindings (λ i. weighed (equation_at s.equations i).entries (unit_at j)) (all_zero (λ m. IsIn m.0 c.equations) (λ i. weighed (equation_at s.equations i).entries (unit_at j)) r.bindings
-            (λ m own. weighed_none j (equation_at s.equations m.0).entries (λ p has. elsewhere j p out (owned s c is m.0 p (point_within s m.0 p ok has) own has)))
-            (recursion_from_All (λ m. IsIn m.0 c.equations) r.bindings h.bindings)))
+        (λ m own. weighed_none j (equation_at s.equations m.0).entries (λ p has. elsewhere j p out (owned s c is m.0 p (point_within s m.0 p ok has) own has)))
+        (recursion_from_All (λ m. IsIn m.0 c.equations) r.bindings h.bindings)))
         (ended j out r.lows h.lows)
         (ended j out r.highs h.highs)

@@ -41,6 +41,7 @@ groups_more ms ns new i n k0 l e b m h k j = go (cases_eq k k0)
   where
     own : get_or (set ms k0 new) k0 [] ≡ filter (λ j. slice_index ns j == k0) (before (i + 1))
     own = get_or-set_same ms k0 new [] (omega arith) ∙ m ∙ ap (λ (t : List ℕ). t ++ i ∷ []) (h k0 b) ∙ sym (more_here ns k0 i e)
+
     go : ((k ≡ k0) ⊎ (k ≡ k0 → ⊥)) → get_or (set ms k0 new) k [] ≡ filter (λ j. slice_index ns j == k) (before (i + 1))
     go (inl q) = subst (λ (x : ℕ). get_or (set ms k0 new) x [] ≡ filter (λ j. slice_index ns j == x) (before (i + 1))) (sym q) own
     go (inr q) = get_or-set_other ms k0 k new [] q ∙ h k j ∙ sym (more_elsewhere ns k i (λ f. q (sym f ∙ e)))
@@ -52,6 +53,7 @@ made_from {X} f d a (x ∷ xs) h = ap (λ (y : X). y ∷ xs) first ∙ ap (λ (l
   where
     first : x ≡ f a
     first = h 0 (omega arith) ∙ ap f (add-zero a)
+
     along : (k : ℕ) → a + suc k ≡ a + 1 + k
     along k = omega arith
 
@@ -126,6 +128,7 @@ first_least (y ∷ ys) x s (inr h) = by ys s.0 h
   where
     less : (y x : ℕ) → nat_cmp y x ≡ Less → y ≤ x
     less y x e = grind (arith, nat_tests)
+
     by : (zs : List ℕ) → AllByRecursion (λ z. nat_cmp y z ≡ Less) zs → IsIn x zs → y ≤ x
     by [] a h = absurd h
     by (z ∷ zs) a (inl e) = less y x (subst (λ (w : ℕ). nat_cmp y w ≡ Less) (sym e) a.0)

@@ -18,6 +18,7 @@ roots_set up q v root h l e n = record { kept = λ p m. kept p (omega (arith, le
     kept : (p : ℕ) → p < length up → ((p ≡ q) ⊎ (p ≡ q → ⊥)) → root (get_or (set up q v) p 0) ≡ root p
     kept p m (inl f) = rw (f, get_or-set_same up q v 0 l) e
     kept p m (inr f) = rw (get_or-set_other up q p v 0 f) (h.kept p m)
+
     own : (p : ℕ) → p < length up → ((p ≡ q) ⊎ (p ≡ q → ⊥)) → get_or (set up q v) p 0 ≡ p → root p ≡ p
     own p m (inl f) k = rw f (h.own q l (n (rw (f, get_or-set_same up q v 0 l) at k)))
     own p m (inr f) k = h.own p m (rw (get_or-set_other up q p v 0 f) at k)
@@ -39,11 +40,14 @@ roots_renamed up m n root h l e f = record { kept = λ p k. kept p (omega (arith
     at_n : ((n ≡ m) ⊎ (n ≡ m → ⊥)) → renamed m n root n ≡ n
     at_n (inl q) = rw (f, eq-eqb n m q)
     at_n (inr q) = rw (f, ne_eqb n m q)
+
     at_m : renamed m n root m ≡ n
     at_m = rw (e, eq-eqb m m refl)
+
     kept : (p : ℕ) → p < length up → ((p ≡ m) ⊎ (p ≡ m → ⊥)) → renamed m n root (get_or (set up m n) p 0) ≡ renamed m n root p
     kept p k (inl q) = rw (q, get_or-set_same up m n 0 l) (at_n (cases_eq n m) ∙ sym at_m)
     kept p k (inr q) = rw (get_or-set_other up m p n 0 q) (ap (λ (r : ℕ). cond (eqb r m) n r) (h.kept p k))
+
     own : (p : ℕ) → p < length up → ((p ≡ m) ⊎ (p ≡ m → ⊥)) → get_or (set up m n) p 0 ≡ p → renamed m n root p ≡ p
     own p k (inl q) j = rw q (at_m ∙ rw (q, get_or-set_same up m n 0 l) at j)
     own p k (inr q) j = rw (h.own p k (rw (get_or-set_other up m p n 0 q) at j), ne_eqb p m q)

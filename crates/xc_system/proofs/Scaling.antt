@@ -141,6 +141,7 @@ common_both {P} {Q} a b = record {
   where
     left : (k : ℕ) → a.over * (b.over * k) ≡ a.over * b.over * k
     left k = omega arith
+
     right : (k : ℕ) → b.over * (a.over * k) ≡ a.over * b.over * k
     right k = omega arith
 

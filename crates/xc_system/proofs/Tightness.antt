@@ -59,6 +59,7 @@ first_more Tighter facts k f new g (inl (same, more)) h = subst (IsFirstTightest
     less : (j : ℕ) → (Tighter j k → ⊥) → Tighter f j ⊎ Tighter j k → Tighter f j
     less j none (inl t) = t
     less j none (inr t) = absurd (none t)
+
     all : (j : ℕ) → (IsIn j h.front ⊎ ((j ≡ k) ⊎ IsIn j h.back)) → Tighter f j
     all j (inl i) = less j (λ t. g.asymmetric j k t (h.before j i)) (g.either f j k more)
     all j (inr (inl e)) = subst (Tighter f) (sym e) more

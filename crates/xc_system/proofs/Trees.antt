@@ -53,6 +53,7 @@ once_of_ascending (x ∷ xs) h = (none xs h.0, once_of_ascending xs h.1)
   where
     never : (x y : ℕ) → nat_cmp x y ≡ Less → x ≡ y → ⊥
     never x y e f = grind (arith, nat_tests)
+
     none : (ys : List ℕ) → AllByRecursion (λ y. nat_cmp x y ≡ Less) ys → IsIn x ys → ⊥
     none [] a i = i
     none (y ∷ ys) a (inl e) = never x y a.0 e
@@ -83,9 +84,11 @@ count_once (x ∷ xs) p o = go (cases_eq x p) (count_once xs p o.1)
   where
     zero_or : (n : ℕ) → (n ≡ 0) ⊎ (0 < n)
     zero_or n = grind arith
+
     none : x ≡ p → ((count xs p ≡ 0) ⊎ (0 < count xs p)) → count xs p ≡ 0
     none e (inl z) = z
     none e (inr k) = absurd (o.0 (subst (λ (y : ℕ). IsIn y xs) (sym e) (in_count xs p k)))
+
     go : ((x ≡ p) ⊎ (x ≡ p → ⊥)) → count xs p ≤ 1 → cond (eqb x p) 1 0 + count xs p ≤ 1
     go (inl e) k = let z : count xs p ≡ 0 = none e (zero_or (count xs p)) in rw (eq-eqb x p e) (omega arith)
     go (inr e) k = rw (ne_eqb x p e) (omega arith)
@@ -96,6 +99,7 @@ once_count (x ∷ xs) h = (λ i. absurd (twice (count_in xs x i) (h x (inl refl)
   where
     twice : 0 < count xs x → cond (eqb x x) 1 0 + count xs x ≤ 1 → ⊥
     twice a b = omega (arith, rw (eq-eqb x x refl) at b)
+
     fewer : (p : ℕ) → cond (eqb x p) 1 0 + count xs p ≤ 1 → count xs p ≤ 1
     fewer p k = omega arith
 
@@ -150,8 +154,10 @@ module _ (s : Constraints) (c : Component) (is : IsComponent s c) (named : (i p 
     where
       at_t : IsIn t c.points
       at_t = closed s c is i a t (named i t ht) at ha ht
+
       row_in : IsIn (s.points + i) (vertices s.points c.points c.equations)
       row_in = in_right (s.points + i) c.points _ (in_map s.points i c.equations ((is.equations i).1 (a, ha, at)))
+
       go : (IsIn (s.points + i) ws ⊎ (IsIn (s.points + i) ws → ⊥)) → (IsIn t ws ⊎ (IsIn t ws → ⊥)) → ((IsIn t ws → ⊥) → Out ws) → Out ws
       go (inl r) o f = (a, s.points + i, in_left a c.points _ at, m, r, swap (s.points + i) a (row_joins i a (below a at) ha))
       go (inr r) (inl o) f = (s.points + i, t, row_in, r, o, row_joins i t (below t at_t) ht)
@@ -159,9 +165,9 @@ module _ (s : Constraints) (c : Component) (is : IsComponent s c) (named : (i p 
 
   out : (ws : List ℕ) → IsIn (least_of c) ws → (v : ℕ) → IsIn v (vertices s.points c.points c.equations) → (IsIn v ws → ⊥) → Out ws
   out ws k v i m = elim (in_either v c.points (map (λ j. s.points + j) c.equations) i) [
-      inl a ↦ cross ws v (least_of c) (linked_sym s.equations (least_of c) v ((is.points v).0 a).1) refl k a m
+    | inl a ↦ cross ws v (least_of c) (linked_sym s.equations (least_of c) v ((is.points v).0 a).1) refl k a m
     | inr b ↦ from_row (from_map s.points v c.equations b)
-    ]
+  ]
     where
       from_row : ((j : ℕ) × IsIn j c.equations × (v ≡ s.points + j)) → Out ws
       from_row (j, a, e) = at ((is.equations j).0 a)

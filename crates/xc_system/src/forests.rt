@@ -211,6 +211,12 @@ fn leaves_room(points: usize, scale: u128, reach: u128) -> bool
         → IsTrue result ↔ ((2 * points + 4) * (scale + exact) ≤ 2 ^ 126) }
 {
     saturated_sums();
-    let factor = 2 * points as u128 + 4;
-    factor.saturating_mul(scale.saturating_add(reach)) <= 1 << 126
+    times_for(points).saturating_mul(scale.saturating_add(reach)) <= 1 << 126
+}
+
+// How many times the numbers of this many points have to fit.
+fn times_for(points: usize) -> u128
+    ensures { result ≡ 2 * points + 4 }
+{
+    2 * points as u128 + 4
 }

@@ -22,7 +22,11 @@ pub fn components(alloc: Global, system: &System) -> Result<Vec<Component>, Memo
 }
 
 // The components of as many points and these equations.
-fn components_of(alloc: Global, points: u32, equations: &[Equation]) -> Result<Vec<Component>, Memory>
+fn components_of(
+    alloc: Global,
+    points: u32,
+    equations: &[Equation],
+) -> Result<Vec<Component>, Memory>
     requires named { All (λ equation. All (λ entry. entry.point < points) equation.entries) equations.now }
     requires few { length equations.now < 2 ^ 32 }
     ensures { (s : Constraints) → s.points ≡ points → s.equations ≡ equations.now
@@ -37,7 +41,12 @@ fn components_of(alloc: Global, points: u32, equations: &[Equation]) -> Result<V
 }
 
 // For each equation the number of its first point; this one where it has none.
-fn owners(alloc: Global, equations: &[Equation], numbers: &[u32], none: u32) -> Result<Vec<u32>, Memory>
+fn owners(
+    alloc: Global,
+    equations: &[Equation],
+    numbers: &[u32],
+    none: u32,
+) -> Result<Vec<u32>, Memory>
     requires { All (λ equation. All (λ entry. entry.point < length numbers.now) equation.entries) equations.now }
     ensures { IfOk result (λ owners. owners.items ≡ map (owner_of numbers.now none) equations.now) }
 {
@@ -60,7 +69,11 @@ fn owner_of(equation: &Equation, numbers: &[u32], none: u32) -> u32
 }
 
 // Points with equations, one by one.
-fn paired(alloc: Global, points: Vec<Items<u32>>, equations: Vec<Items<u32>>) -> Result<Vec<Component>, Memory>
+fn paired(
+    alloc: Global,
+    points: Vec<Items<u32>>,
+    equations: Vec<Items<u32>>,
+) -> Result<Vec<Component>, Memory>
     ensures { IfOk result (λ components. components.items ≡ map component_of (zip points.items equations.items)) }
 {
     let mut components = Vec::new(alloc);

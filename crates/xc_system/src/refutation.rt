@@ -29,7 +29,11 @@ impl Model for Refutation {
 impl Refutation {
     /// A refutation with these lists, whose numbers ascend, whose multipliers of equations are not 0, and
     /// whose multipliers of ends are positive.
-    pub fn of(bindings: Vec<(u32, Frac)>, lows: Vec<(u32, Frac)>, highs: Vec<(u32, Frac)>) -> Refutation
+    pub fn of(
+        bindings: Vec<(u32, Frac)>,
+        lows: Vec<(u32, Frac)>,
+        highs: Vec<(u32, Frac)>,
+    ) -> Refutation
         requires { IsRefutation (record { bindings = bindings.items; lows = lows.items; highs = highs.items }) }
         ensures { result ≡ record { bindings = bindings.items; lows = lows.items; highs = highs.items } }
     {

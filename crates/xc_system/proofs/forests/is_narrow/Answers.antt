@@ -23,5 +23,5 @@ returns c =
     let least : IsMultipleOf 1 (ArePointsOver s.bounds part.points) scale = subst (λ (ps : List ℕ). IsMultipleOf 1 (ArePointsOver s.bounds ps) scale) same c.in-Some.ensures.some in
     let reached : c.total_reach.result ≡ saturated (total_reach s part scale) = c.total_reach.ensures ∙ ap (λ (ps : List ℕ). saturated (sum_by (λ p. sum_by (reach_at s.bounds scale) (facts_of s.bounds p)) ps)) same in
     let told : IsTrue c.leaves_room.result ↔ ((2 * length part.points + 4) * (scale + total_reach s part scale) ≤ 2 ^ 126) =
-        subst (λ (ps : List ℕ). IsTrue c.leaves_room.result ↔ ((2 * length ps + 4) * (scale + total_reach s part scale) ≤ 2 ^ 126)) same (c.leaves_room.ensures (total_reach s part scale) reached) in
+    subst (λ (ps : List ℕ). IsTrue c.leaves_room.result ↔ ((2 * length ps + 4) * (scale + total_reach s part scale) ≤ 2 ^ 126)) same (c.leaves_room.ensures (total_reach s part scale) reached) in
     (λ h. narrow_from s part scale least (told.0 h), λ h. told.1 (narrow_to s part scale least h.1))

@@ -21,11 +21,13 @@ returns-then-not-have_unit_weights-clause-is c = (λ h. absurd (false≢true h),
 
 pub returns-clause-is : goal.returns-clause-is
 returns-clause-is c =
-    let a = acyclic_from c.args.system.now c.args.component.now c.has_no_cycle.ensures.system c.requires (c.if-not-has_no_cycle.ensures.is.0 refl) in
-    (λ h. record {
+    let a = acyclic_from c.args.system.now c.args.component.now c.has_no_cycle.ensures.system c.requires (c.if-not-has_no_cycle.ensures.is.0 refl) in (
+      λ h. record {
         forest = a.0;
         once = a.1;
         weights = c.if-not-have_unit_weights.ensures.0 refl;
         known = (c.is_narrow.ensures.0 h).0;
         narrow = (c.is_narrow.ensures.0 h).1;
-      }, λ n. c.is_narrow.ensures.1 (n.known, n.narrow))
+      },
+      λ n. c.is_narrow.ensures.1 (n.known, n.narrow),
+    )

@@ -6,11 +6,11 @@ use Rattle.xc_system.proofs.grouping.gathered.Goals as goal
 
 pub loop-i-preserved : goal.loop-i-preserved
 loop-i-preserved c = elim c.if-number-count.branch [
-    then-number-count+in_ok-push-2 w ↦
+  | then-number-count+in_ok-push-2 w ↦
       let i = c.loop-i.invariant in
       let n : get_or c.args.numbers.now c.loop-i.i 0 < c.args.count = w.if-number-count.true in
       let g : get_or (map (λ v. v.items) c.loop-i.groups.items) (get_or c.args.numbers.now c.loop-i.i 0) [] ≡ w.index_mut.result.now.items =
-          get_or-map (λ v. v.items) c.loop-i.groups.items (get_or c.args.numbers.now c.loop-i.i 0) w.index_mut.result.now [] (omega (arith, i.length)) ∙ (rw (← w.index_mut.ensures.value) refl) in
+      get_or-map (λ v. v.items) c.loop-i.groups.items (get_or c.args.numbers.now c.loop-i.i 0) w.index_mut.result.now [] (omega (arith, i.length)) ∙ (rw (← w.index_mut.ensures.value) refl) in
       let e : w.push-then-number-count.new.self.items ≡ get_or (map (λ v. v.items) c.loop-i.groups.items) (get_or c.args.numbers.now c.loop-i.i 0) [] ++ c.loop-i.i ∷ [] = rw g w.in_ok-push-2.ensures.items in
       record {
         length = rw w.groups-is (length-set _ _ _ ∙ i.length);
@@ -23,7 +23,7 @@ loop-i-preserved c = elim c.if-number-count.branch [
         length = rw w.groups-is i.length;
         places = λ k l. rw w.groups-is (i.places k l ∙ sym (more_elsewhere c.args.numbers.now k c.loop-i.i (λ q. omega (arith, q))));
       }
-  ]
+]
 
 pub returns : goal.returns
 returns c =

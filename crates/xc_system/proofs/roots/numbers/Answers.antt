@@ -7,7 +7,7 @@ use Rattle.xc_system.proofs.roots.numbers.Goals as goal
 
 pub loop-p-preserved : goal.loop-p-preserved
 loop-p-preserved c = elim c.if-above-p.branch [
-    then-above-p+in_ok-push w ↦
+  | then-above-p+in_ok-push w ↦
       let i = c.loop-p.invariant in
       let e : c.if-above-p.numbers.items ≡ c.loop-p.numbers.items ++ c.loop-p.count ∷ [] = rw w.numbers-is w.in_ok-push.ensures.items in
       let t : get_or c.args.up.now c.loop-p.p 0 ≡ c.loop-p.p = search rules in
@@ -30,4 +30,4 @@ loop-p-preserved c = elim c.if-above-p.branch [
         few = omega (arith, w.count-is);
         numbers = λ root h q m. rw e (numbered_push c.args.up.now c.loop-p.numbers.items c.loop-p.p w.index-number.result.now root i.length (i.numbers root h) (v ∙ (i.numbers root h (get_or c.args.up.now c.loop-p.p 0) l ∙ ap (rank c.args.up.now) (h.kept c.loop-p.p (omega arith)))) q m);
       }
-  ]
+]

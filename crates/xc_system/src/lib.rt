@@ -11,6 +11,8 @@ mod roots;
 mod scratch;
 mod spots;
 mod systems;
+#[cfg(test)]
+mod tests;
 mod types;
 
 pub use forests::is_narrow_forest;

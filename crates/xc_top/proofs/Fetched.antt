@@ -1,5 +1,5 @@
 -- Words of which the first are fetched.
-use Rattle.std.proofs.Common.{◌≡◌, ℕ, ◌+◌, ◌<◌, ◌≤◌, List, [], ◌∷◌, ◌++◌, length, drop, get_or, Option, Some, None, refl, sym, ap, subst, ◌∙◌, append_assoc, append-nil}
+use Rattle.std.proofs.Common.{◌≡◌, ℕ, ◌+◌, ◌<◌, ◌≤◌, List, [], ◌∷◌, ◌++◌, length, drop, get_or, Option, Some, None, refl, sym, ap, subst, ◌∙◌, append_assoc, append-nil, IfSome}
 use Rattle.std.proofs.lemmas.List.{drop_more}
 use Rattle.std.specs.Option.{option_or}
 use Rattle.std.specs.Prelude.{String, string_bytes}
@@ -10,6 +10,7 @@ use Rattle.xc_top.specs.Words.{texts}
 use Rattle.xc_top.specs.declared.documents.Document.{Document}
 use Rattle.xc_top.specs.declared.status.Answer.{Answer}
 use Rattle.xc_top.proofs.Leaving.{short_fetched}
+use Rattle.xc_top.proofs.Stops.{if_both, if_then}
 
 -- one word is fetched
 pub one_fetched : (files : Files) (word bytes : List ℕ) (document : Document)
@@ -31,7 +32,7 @@ pub fetched_none : (files : Files) (words : List (List ℕ)) → Fetched files w
 fetched_none files words = record { documents = λ rest h. h; first = λ i. first_unfetched files words }
 
 -- one more word is fetched
-pub fetched_more : (files : Files) (words left after : List (List ℕ)) (word : List ℕ) (done : List Document) (document : Document)
+fetched_more : (files : Files) (words left after : List (List ℕ)) (word : List ℕ) (done : List Document) (document : Document)
     → left ≡ word ∷ after → AreFetched files (word ∷ []) (document ∷ [])
     → Fetched files words left done → Fetched files words after (done ++ document ∷ [])
 fetched_more files words left after word done document e one fetched =
@@ -50,11 +51,25 @@ fetched_more files words left after word done document e one fetched =
     behind files word after none = given (unfetched files word) (first_unfetched files after) none
 
 -- all are fetched
-pub fetched_all : (files : Files) (words left : List (List ℕ)) (done : List Document) → left ≡ [] → Fetched files words left done → AreFetched files words done
+fetched_all : (files : Files) (words left : List (List ℕ)) (done : List Document) → left ≡ [] → Fetched files words left done → AreFetched files words done
 fetched_all files words left done e fetched = record {
   fetched = sym fetched.first ∙ ap (first_unfetched files) e;
   read = subst (λ ds. AreDocumentsOf files words ds) (append-nil done) (fetched.documents [] (subst (λ ws. AreDocumentsOf files ws []) (sym e) tt));
 }
+
+-- the same of what is told
+pub first_told : (told : Option Files) (words left : List (List ℕ)) (done : List Document) → IfSome told (λ files. Fetched files words left done)
+    → IfSome told (λ files. first_unfetched files left ≡ first_unfetched files words)
+first_told told words left done fetched = if_then told (λ files f. f.first) fetched
+
+pub more_told : (told : Option Files) (words left after : List (List ℕ)) (word : List ℕ) (done : List Document) (document : Document)
+    → left ≡ word ∷ after → IfSome told (λ files. Fetched files words left done) → IfSome told (λ files. AreFetched files (word ∷ []) (document ∷ []))
+    → IfSome told (λ files. Fetched files words after (done ++ document ∷ []))
+more_told told words left after word done document e fetched one = if_both told (λ files f o. fetched_more files words left after word done document e o f) fetched one
+
+pub all_told : (told : Option Files) (words left : List (List ℕ)) (done : List Document) → left ≡ [] → IfSome told (λ files. Fetched files words left done)
+    → IfSome told (λ files. AreFetched files words done)
+all_told told words left done e fetched = if_then told (λ files f. fetched_all files words left done e f) fetched
 
 -- the next of the words that are left
 pub next_left : (words : List (String Global)) (i : ℕ) (item : String Global) (word : List ℕ) → i < length words → item ≡ get_or words i item → word ≡ string_bytes item → texts (drop i words) ≡ word ∷ texts (drop (i + 1) words)

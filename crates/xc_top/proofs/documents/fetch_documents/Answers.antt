@@ -4,9 +4,8 @@ use Rattle.xc_top.specs.Documents.{AreFetched}
 use Rattle.xc_top.specs.Run.{IsReadFaultOf}
 use Rattle.xc_top.specs.Steps.Fetches.{IsUnfetched}
 use Rattle.xc_top.specs.Words.{texts}
-use Rattle.xc_top.proofs.Fetched.{Fetched, fetched_all, fetched_more, next_left}
+use Rattle.xc_top.proofs.Fetched.{Fetched, all_told, first_told, more_told, next_left}
 use Rattle.xc_top.proofs.Leaving.{left_unread, more_fetches, stop_through}
-use Rattle.xc_top.proofs.Stops.{if_both, if_then}
 use Rattle.xc_top.proofs.documents.fetch_documents.Goals as goal
 
 -- the document of a word cannot be fetched
@@ -20,7 +19,7 @@ returns-in_err-fetch_document-clause-unfetched g c =
     (texts c.args.words.now) (texts (drop c.loop-word.word-index c.args.words.now)) c.as_str.result.now (texts (drop (c.loop-word.word-index + 1) c.args.words.now)) c.in_err-fetch_document.field-0.0
     (next_left c.args.words.now c.loop-word.word-index c.word-item.result c.as_str.result.now more c.word-item.is c.as_str.ensures.value)
     c.loop-word.invariant.left c.loop-word.invariant.worked c.loop-word.invariant.line
-    (if_then (shelf.held c.args.shelf.now) (λ files fetched. fetched.first) c.loop-word.invariant.told)
+    (first_told (shelf.held c.args.shelf.now) (texts c.args.words.now) (texts (drop c.loop-word.word-index c.args.words.now)) c.loop-word.documents.items c.loop-word.invariant.told)
     c.in_err-fetch_document.ensures.unfetched)
 
 pub returns-in_err-fetch_document-clause-left : goal.returns-in_err-fetch_document-clause-left
@@ -41,7 +40,7 @@ loop-word-preserved g c =
     let document = c.in_ok-fetch_document.field-0 in
     record {
       told = subst (λ ds. IfSome (held c.args.shelf.now) (λ files. Fetched files (texts c.args.words.now) (texts (drop (c.loop-word.word-index + 1) c.args.words.now)) ds)) (sym c.in_ok-push.ensures.items)
-          (if_both (held c.args.shelf.now) (λ files fetched one. fetched_more files _ _ _ c.as_str.result.now c.loop-word.documents.items document next one fetched) c.loop-word.invariant.told
+          (more_told (held c.args.shelf.now) (texts c.args.words.now) (texts (drop c.loop-word.word-index c.args.words.now)) (texts (drop (c.loop-word.word-index + 1) c.args.words.now)) c.as_str.result.now c.loop-word.documents.items document next c.loop-word.invariant.told
           (subst (λ o. IfSome o (λ files. AreFetched files (c.as_str.result.now ∷ []) (document ∷ []))) c.loop-word.invariant.left.same c.in_ok-fetch_document.ensures.document));
       worked = c.in_ok-fetch_document.ensures.worked ∙ c.loop-word.invariant.worked;
       left = more_fetches _ _ _ _ _ _ _ c.loop-word.word-index 1 (c.loop-word.word-index + 1) (omega arith) c.loop-word.invariant.left c.fetch_document.ensures.left;
@@ -51,4 +50,4 @@ loop-word-preserved g c =
 pub returns-clause-documents : goal.returns-clause-documents
 returns-clause-documents g c =
     let all : drop c.loop-word.word-index c.args.words.now ≡ [] = grind (arith, common_steps) in
-    if_then (g.S.Shelf.held c.args.shelf.now) (λ files fetched. fetched_all files (texts c.args.words.now) _ c.loop-word.documents.items (ap texts all) fetched) c.loop-word.invariant.told
+    all_told (g.S.Shelf.held c.args.shelf.now) (texts c.args.words.now) (texts (drop c.loop-word.word-index c.args.words.now)) c.loop-word.documents.items (ap texts all) c.loop-word.invariant.told

@@ -62,10 +62,14 @@ pub first_told : (told : Option Files) (words left : List (List ℕ)) (done : Li
     → IfSome told (λ files. first_unfetched files left ≡ first_unfetched files words)
 first_told told words left done fetched = if_then told (λ files f. f.first) fetched
 
-pub more_told : (told : Option Files) (words left after : List (List ℕ)) (word : List ℕ) (done : List Document) (document : Document)
-    → left ≡ word ∷ after → IfSome told (λ files. Fetched files words left done) → IfSome told (λ files. AreFetched files (word ∷ []) (document ∷ []))
-    → IfSome told (λ files. Fetched files words after (done ++ document ∷ []))
-more_told told words left after word done document e fetched one = if_both told (λ files f o. fetched_more files words left after word done document e o f) fetched one
+pub more_told : (told still : Option Files) (words left after : List (List ℕ)) (word : List ℕ) (done more : List Document) (document : Document)
+    → still ≡ told → more ≡ done ++ document ∷ [] → left ≡ word ∷ after
+    → IfSome told (λ files. Fetched files words left done) → IfSome still (λ files. AreFetched files (word ∷ []) (document ∷ []))
+    → IfSome told (λ files. Fetched files words after more)
+more_told told still words left after word done more document same pushed e fetched one =
+    subst (λ ds. IfSome told (λ files. Fetched files words after ds)) (sym pushed)
+    (if_both told (λ files f o. fetched_more files words left after word done document e o f) fetched
+    (subst (λ o. IfSome o (λ files. AreFetched files (word ∷ []) (document ∷ []))) same one))
 
 pub all_told : (told : Option Files) (words left : List (List ℕ)) (done : List Document) → left ≡ [] → IfSome told (λ files. Fetched files words left done)
     → IfSome told (λ files. AreFetched files words done)

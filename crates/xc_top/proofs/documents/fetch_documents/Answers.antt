@@ -1,10 +1,9 @@
-use Rattle.std.proofs.Common.{◌≡◌, ◌<◌, ◌≤◌, ◌+◌, ◌∷◌, [], IfSome, inr, length, drop, ap, subst, sym, ◌∙◌, arith}
+use Rattle.std.proofs.Common.{◌≡◌, ◌<◌, ◌≤◌, ◌+◌, [], inr, length, drop, ap, subst, sym, ◌∙◌, arith}
 use Rattle.std.proofs.lemmas.Grind.{common_steps}
-use Rattle.xc_top.specs.Documents.{AreFetched}
 use Rattle.xc_top.specs.Run.{IsReadFaultOf}
 use Rattle.xc_top.specs.Steps.Fetches.{IsUnfetched}
 use Rattle.xc_top.specs.Words.{texts}
-use Rattle.xc_top.proofs.Fetched.{Fetched, all_told, first_told, more_told, next_left}
+use Rattle.xc_top.proofs.Fetched.{all_told, first_told, more_told, next_left}
 use Rattle.xc_top.proofs.Leaving.{left_unread, more_fetches, stop_through}
 use Rattle.xc_top.proofs.documents.fetch_documents.Goals as goal
 
@@ -37,11 +36,9 @@ loop-word-preserved g c =
     let more : c.loop-word.word-index < length c.args.words.now = grind (arith, common_steps) in
     let next = next_left c.args.words.now c.loop-word.word-index c.word-item.result c.as_str.result.now more c.word-item.is c.as_str.ensures.value in
     let held = g.S.Shelf.held in
-    let document = c.in_ok-fetch_document.field-0 in
     record {
-      told = subst (λ ds. IfSome (held c.args.shelf.now) (λ files. Fetched files (texts c.args.words.now) (texts (drop (c.loop-word.word-index + 1) c.args.words.now)) ds)) (sym c.in_ok-push.ensures.items)
-          (more_told (held c.args.shelf.now) (texts c.args.words.now) (texts (drop c.loop-word.word-index c.args.words.now)) (texts (drop (c.loop-word.word-index + 1) c.args.words.now)) c.as_str.result.now c.loop-word.documents.items document next c.loop-word.invariant.told
-          (subst (λ o. IfSome o (λ files. AreFetched files (c.as_str.result.now ∷ []) (document ∷ []))) c.loop-word.invariant.left.same c.in_ok-fetch_document.ensures.document));
+      told = more_told (held c.args.shelf.now) (held c.loop-word.shelf) (texts c.args.words.now) (texts (drop c.loop-word.word-index c.args.words.now)) (texts (drop (c.loop-word.word-index + 1) c.args.words.now)) c.as_str.result.now c.loop-word.documents.items c.push.new.self.items c.in_ok-fetch_document.field-0
+          c.loop-word.invariant.left.same c.in_ok-push.ensures.items next c.loop-word.invariant.told c.in_ok-fetch_document.ensures.document;
       worked = c.in_ok-fetch_document.ensures.worked ∙ c.loop-word.invariant.worked;
       left = more_fetches _ _ _ _ _ _ _ c.loop-word.word-index 1 (c.loop-word.word-index + 1) (omega arith) c.loop-word.invariant.left c.fetch_document.ensures.left;
       line = λ text is. c.loop-word.invariant.line text (subst (λ ws. IsReadFaultOf ws text) (sym next) (inr is));

@@ -13,7 +13,7 @@ use Rattle.xc_top.proofs.Leaving.{short_fetched}
 use Rattle.xc_top.proofs.Stops.{if_both, if_then}
 
 -- one word is fetched
-pub one_fetched : (files : Files) (word bytes : List ℕ) (document : Document)
+one_fetched : (files : Files) (word bytes : List ℕ) (document : Document)
     → files word ≡ Some bytes → length bytes ≤ limit → document.word ≡ word → IsContentOf bytes document.content
     → AreFetched files (word ∷ []) (document ∷ [])
 one_fetched files word bytes document held short named content =
@@ -79,3 +79,8 @@ all_told told words left done e fetched = if_then told (λ files f. fetched_all 
 pub next_left : (words : List (String Global)) (i : ℕ) (item : String Global) (word : List ℕ) → i < length words → item ≡ get_or words i item → word ≡ string_bytes item → texts (drop i words) ≡ word ∷ texts (drop (i + 1) words)
 next_left words i item word h is named =
     ap texts (drop_more words i item h ∙ ap (λ x. x ∷ drop (i + 1) words) (sym is)) ∙ ap (λ w. w ∷ texts (drop (i + 1) words)) (sym named)
+
+pub one_told : (told : Option Files) (word bytes : List ℕ) (document : Document)
+    → IfSome told (λ files. files word ≡ Some bytes) → length bytes ≤ limit → document.word ≡ word → IsContentOf bytes document.content
+    → IfSome told (λ files. AreFetched files (word ∷ []) (document ∷ []))
+one_told told word bytes document held short named content = if_then told (λ files is. one_fetched files word bytes document is short named content) held

@@ -1,5 +1,5 @@
 -- What fetches leave of a shelf, one after another, and what is answered of them. The parameters `held`, `steady`, `faults` and `fetches` are the meanings of a shelf.
-use Rattle.std.proofs.Common.{◌≡◌, ◌⊎◌, ℕ, ◌+◌, ◌<◌, ◌≤◌, List, [], ◌∷◌, length, Bool, true, false, Option, Some, None, Result, Ok, Err, nat_lt, cond, refl, sym, ap, subst, ◌∙◌, inl, inr, arith, IfSome}
+use Rattle.std.proofs.Common.{◌≡◌, ℕ, ◌+◌, ◌<◌, ◌≤◌, List, [], ◌∷◌, length, Bool, true, false, Option, Some, None, Result, Ok, Err, nat_lt, cond, refl, sym, ap, subst, ◌∙◌, inl, inr, arith, IfSome}
 use Rattle.std.proofs.lemmas.Bool.Decides.{nat_tests}
 use Rattle.std.specs.Option.{option_or}
 use Rattle.std.specs.Prelude.{IsErrAnd, codes}

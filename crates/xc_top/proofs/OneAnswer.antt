@@ -120,8 +120,8 @@ module _ (below : Below) (documents_are_one : DocumentsAreOne) where
 
   one_over : (check : CheckWords) (report : List ℕ) (documents : List Document) (one other : Answer) → IsDocumentsAnswer check report documents one → IsDocumentsAnswer check report documents other → one ≡ other
   one_over check report documents one other (inl h) (inl k) = one_refusal below.tell below.stand check.kind documents one other h k
-  one_over check report documents one other (inl h) (inr k) = absurd (refused_or_read check.kind documents one k.names k.networks k.wanted h k.taxonomy)
-  one_over check report documents one other (inr h) (inl k) = absurd (refused_or_read check.kind documents other h.names h.networks h.wanted k h.taxonomy)
+  one_over check report documents one other (inl h) (inr k) = absurd (refused_or_read below.tell below.stand check.kind documents one k.names k.networks k.wanted h k.taxonomy)
+  one_over check report documents one other (inr h) (inl k) = absurd (refused_or_read below.tell below.stand check.kind documents other h.names h.networks h.wanted k h.taxonomy)
   one_over check report documents one other (inr h) (inr k) =
       one_opened check h.names k.names h.networks k.networks h.wanted k.wanted
       (one_taxonomy below.tell below.stand below.networks check.kind documents h.names h.networks h.wanted k.names k.networks k.wanted h.taxonomy k.taxonomy)

@@ -174,8 +174,8 @@ one_refusal tell stand kind documents one other (inr (inr l)) (inr (inl s)) = ab
 one_refusal tell stand kind documents one other (inr (inr l)) (inr (inr m)) = same_Some one other (sym l.broken ∙ sym (same_link_fault tell stand kind documents l.names m.names l.schemas m.schemas l.declared m.declared l.held m.held) ∙ m.broken)
 
 -- documents that make a taxonomy have no refusal
-pub refused_or_read : (kind : ArcKind) (documents : List Document) (answer : Answer) (names : List Expanded) (networks : List Network) (wanted : Wanted)
+pub refused_or_read : NumbersTellNames → NamesStandAtNumbers → (kind : ArcKind) (documents : List Document) (answer : Answer) (names : List Expanded) (networks : List Network) (wanted : Wanted)
     → IsTaxonomyRefusal kind documents answer → IsTaxonomyOf kind documents names networks wanted → ⊥
-refused_or_read kind documents answer names networks wanted (inl e) t = none-some answer (sym t.read ∙ e)
-refused_or_read kind documents answer names networks wanted (inr (inl s)) t = none-some answer (sym t.sound ∙ broken_alike (schemas_in documents) s.schemas t.schemas s.declared t.declared ∙ s.broken)
-refused_or_read kind documents answer names networks wanted (inr (inr l)) t = none-some answer (sym t.linked ∙ same_link_fault kind documents l.names names l.schemas t.schemas l.declared t.declared l.held t.held ∙ l.broken)
+refused_or_read tell stand kind documents answer names networks wanted (inl e) t = none-some answer (sym t.read ∙ e)
+refused_or_read tell stand kind documents answer names networks wanted (inr (inl s)) t = none-some answer (sym t.sound ∙ broken_alike (schemas_in documents) s.schemas t.schemas s.declared t.declared ∙ s.broken)
+refused_or_read tell stand kind documents answer names networks wanted (inr (inr l)) t = none-some answer (sym t.linked ∙ same_link_fault tell stand kind documents l.names names l.schemas t.schemas l.declared t.declared l.held t.held ∙ l.broken)

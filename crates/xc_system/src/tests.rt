@@ -388,10 +388,12 @@ fn fraction(num: i128, den: i128) -> Option<Frac> {
 #[test]
 fn refutation(rt: HostRuntime) -> Result<(), Fail> {
     let alloc = rt.alloc();
-    let made = Refutation::of(Vec::new(alloc), Vec::new(alloc), Vec::new(alloc));
-    assert_eq!(rt;
-        made.bindings().len() + made.lows().len() + made.highs().len(),
-        0
-    );
+    let bindings = Vec::new(alloc);
+    let lows = Vec::new(alloc);
+    let highs = Vec::new(alloc);
+    let made = Refutation::of(bindings, lows, highs);
+    assert_eq!(rt; made.bindings().len(), 0);
+    assert_eq!(rt; made.lows().len(), 0);
+    assert_eq!(rt; made.highs().len(), 0);
     Ok(())
 }

@@ -4,6 +4,7 @@ mod InOrder
 mod Judging
 mod Members
 mod OneAnswer
+pub mod Owning
 mod PointPlaces
 mod RolesInOrder
 pub mod Placing

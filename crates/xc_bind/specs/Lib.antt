@@ -4,3 +4,4 @@ pub mod Judged
 pub mod Laws
 pub mod Placed
 pub mod Steps
+pub mod Systems

@@ -1,5 +1,6 @@
 -- The system of a report's data points and bindings: a bound for each fact, and an equation for each binding.
 use Rattle.std.specs.Prelude.{◌≡◌, ℕ, pos, List, [], ◌∷◌, Some, slice_get, length}
+use Rattle.std.specs.List.{AllZip}
 use Rattle.xc_bind.specs.declared.types.Binding.{Binding}
 use Rattle.xc_bind.specs.declared.types.Term.{Term}
 use Rattle.xc_decimal.specs.Shortest.{decimal_number}
@@ -17,24 +18,18 @@ pub record IsEntry (point : ℕ) (weight : Fraction) (entry : Entry) : Type 0 wh
   pub at : entry.point ≡ point
   pub weighs : SameNumber (fraction_of entry.weight) weight
 
--- an entry for each term in order, each with the term's point and minus its weight
-abbrev pub AreTermEntries : List Term → List Entry → Type 0
-AreTermEntries [] [] = Unit {0}
-AreTermEntries [] (e ∷ es) = ⊥
-AreTermEntries (t ∷ ts) [] = ⊥
-AreTermEntries (t ∷ ts) (e ∷ es) = IsEntry t.point (neg_of (decimal_number t.weight)) e × AreTermEntries ts es
+-- the entry of a term has the term's point and minus its weight
+abbrev pub IsTermEntry : Term → Entry → Type 0
+IsTermEntry term entry = IsEntry term.point (neg_of (decimal_number term.weight)) entry
 
--- the total with the weight 1, and then the terms
+-- the entries of a binding's equation: the total with the weight 1, and then one for each term in order
 abbrev pub AreEntries : Binding → List Entry → Type 0
 AreEntries binding [] = ⊥
-AreEntries binding (e ∷ es) = IsEntry binding.total (whole (pos 1)) e × AreTermEntries binding.terms es
+AreEntries binding (e ∷ es) = IsEntry binding.total (whole (pos 1)) e × AllZip IsTermEntry binding.terms es
 
--- an equation for each binding in order
-abbrev pub AreEquations : List Binding → List Equation → Type 0
-AreEquations [] [] = Unit {0}
-AreEquations [] (e ∷ es) = ⊥
-AreEquations (b ∷ bs) [] = ⊥
-AreEquations (b ∷ bs) (e ∷ es) = AreEntries b e.entries × AreEquations bs es
+-- the equation is the binding's
+abbrev pub IsEquationOf : Binding → Equation → Type 0
+IsEquationOf binding equation = AreEntries binding equation.entries
 
 -- the bound of fact number f has its interval, where it is not wide, and names the point that has the fact
 pub record IsBoundOf (gathered : Gathered) (f : ℕ) (bound : Bound) : Type 0 where
@@ -43,9 +38,9 @@ pub record IsBoundOf (gathered : Gathered) (f : ℕ) (bound : Bound) : Type 0 wh
   pub there : slice_get gathered.points bound.point ≡ Some point
   pub has : HasFact point f
 
--- the system of points and bindings: exactly one bound a fact, and one equation a binding
+-- the system of points and bindings: exactly one bound a fact, and one equation a binding in order
 pub record IsSystemOf (gathered : Gathered) (bindings : List Binding) (s : Constraints) : Type 0 where
   pub points : s.points ≡ length gathered.points
   pub facts : length s.bounds ≡ length gathered.ends
   pub bounds : (f : ℕ) (bound : Bound) → slice_get s.bounds f ≡ Some bound → IsBoundOf gathered f bound
-  pub equations : AreEquations bindings s.equations
+  pub equations : AllZip IsEquationOf bindings s.equations

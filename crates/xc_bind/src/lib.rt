@@ -3,6 +3,7 @@
 
 mod arcs_from;
 mod bound;
+mod constraints;
 pub mod laws;
 mod point_index;
 #[cfg(test)]
@@ -10,4 +11,5 @@ mod tests;
 mod types;
 
 pub use bound::bindings;
+pub use constraints::system;
 pub use types::{Binding, Term, Verdict};

@@ -8,4 +8,4 @@ is_narrow_forest-narrow-requires c =
     let items = c.as_slice-component-items.result.now in
     let n = c.loop-component.component-index in
     c.in_ok-components.ensures.each n c.component-item.result
-        (ap (λ (l : List Component). slice_get l n) (sym c.as_slice-component-items.ensures.value) ∙ slice_get_read items (length items) n c.component-item.result refl c.loop-component-test.true c.component-item.is)
+    (ap (λ (l : List Component). slice_get l n) (sym c.as_slice-component-items.ensures.value) ∙ slice_get_read items (length items) n c.component-item.result refl c.loop-component-test.true c.component-item.is)

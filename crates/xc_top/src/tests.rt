@@ -44,7 +44,7 @@ const RUNS: [(u64, u64, usize, &str, &str, Status); 9] = [
         0,
         1000,
         SUM,
-        "bindings 1 points 2\nbin",
+        "bindings 1 points 3\nbin",
         Status::WriteFault,
     ),
     (NONE, NONE, 8, SUM, "bindings", Status::WriteFault),

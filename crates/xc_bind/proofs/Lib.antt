@@ -8,3 +8,4 @@ pub mod Owning
 mod PointPlaces
 mod RolesInOrder
 pub mod Placing
+pub mod Solving

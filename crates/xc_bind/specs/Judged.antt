@@ -7,6 +7,7 @@ use Rattle.std.specs.Ordering.{nat_cmp, ordering_then}
 use Rattle.std.specs.declared.cmp.Ordering.{Ordering}
 use Rattle.xc_bind.specs.declared.types.Binding.{Binding}
 use Rattle.xc_bind.specs.declared.types.Term.{Term}
+use Rattle.xc_calc.specs.Networks.{role_of}
 use Rattle.xc_calc.specs.declared.arc.Arc.{Arc}
 use Rattle.xc_calc.specs.declared.arc.Network.{Network}
 use Rattle.xc_points.specs.declared.types.Point.{Point}

@@ -2,6 +2,7 @@
 //!
 //! Each function has an empty body: its contract is the law.
 ghost use Rattle.xc_bind.specs.Laws.{AreThose, GoByRole, HasOneAnswer};
+ghost use Rattle.xc_bind.specs.Solved.{SolutionsAdmit};
 
 /// Where no two points have one concept and one key, the bindings are exactly these: of each network the
 /// points of whose concepts an arc leads to a concept that has a point with the same key, by network and then
@@ -18,4 +19,10 @@ pub fn bindings_are_one()
 /// Where the networks go by role as bytes, the bindings go by role as bytes and then by total.
 pub fn roles_ascend()
     ensures { GoByRole }
+{}
+
+/// An assignment solves the system of a report exactly where no fact is wide, each may stand for the value of
+/// its point by the standard's table, and the equation of each binding holds of the values.
+pub fn solutions_admit()
+    ensures { SolutionsAdmit }
 {}

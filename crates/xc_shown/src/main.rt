@@ -4,7 +4,6 @@
 
 mod cases;
 mod linkbases;
-mod reports;
 mod schemas;
 mod taxonomies;
 mod trees;
@@ -29,7 +28,6 @@ fn show(alloc: Global, subject: &str, parts: &[Part]) -> Result<String, AllocErr
         "trees" => trees::show(alloc, parts),
         "schemas" => schemas::show(alloc, parts),
         "linkbases" => linkbases::show(alloc, parts),
-        "reports" => reports::show(alloc, parts),
         _ => Ok(String::new(alloc)),
     }
 }

@@ -13,8 +13,6 @@ mod fault;
 pub mod laws;
 mod linked;
 mod networks;
-#[cfg(test)]
-mod tests;
 mod wanted;
 
 pub use arc::{Arc, ArcKind, ListedArc, Network, Use};

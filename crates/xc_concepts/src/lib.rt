@@ -11,8 +11,6 @@ mod reading;
 mod references;
 mod rules;
 mod schema;
-#[cfg(test)]
-mod tests;
 mod typed;
 
 pub use concepts::Concepts;

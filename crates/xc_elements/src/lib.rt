@@ -18,8 +18,6 @@ mod references;
 mod refusal;
 mod scope;
 mod tags;
-#[cfg(test)]
-mod tests;
 mod texts;
 mod trees;
 

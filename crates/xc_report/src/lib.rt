@@ -29,5 +29,3 @@ pub use numbered::KeyedFact;
 pub use reports::{Fact, Member, Reading, Report, ReportFault};
 pub use stated::{DimensionName, StatedFact, StatedPart, StatedValue};
 
-#[cfg(test)]
-mod tests;

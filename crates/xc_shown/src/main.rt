@@ -3,7 +3,11 @@
 #![tactic(auto)]
 
 mod cases;
+mod escapes;
+mod items;
 mod linkbases;
+mod nodes;
+mod reports;
 mod schemas;
 mod taxonomies;
 mod trees;
@@ -25,9 +29,12 @@ fn main(rt: HostRuntime) -> io::Result<()> {
 // What the readers of a subject make of its cases.
 fn show(alloc: Global, subject: &str, parts: &[Part]) -> Result<String, AllocError> {
     match subject {
+        "items" => items::show(alloc, parts),
         "trees" => trees::show(alloc, parts),
+        "nodes" => nodes::show(alloc, parts),
         "schemas" => schemas::show(alloc, parts),
         "linkbases" => linkbases::show(alloc, parts),
+        "reports" => reports::show(alloc, parts),
         _ => Ok(String::new(alloc)),
     }
 }

@@ -5,7 +5,7 @@
 // adds the schema of its text, and `= again FILE` the same text once more. All other parts ask.
 
 use crate::cases::Part;
-use crate::taxonomies::{Taxonomy, add_schema, push_ids};
+use crate::taxonomies::{Taxonomy, add_schema, around_space, push_ids};
 use std::alloc::{AllocError, Global};
 use xc_concepts::Kind;
 use xc_names::NameId;
@@ -45,14 +45,6 @@ fn show_part(
             add_schema(alloc, out, taxonomy, rest, text.as_str())
         }
         _ => answer(alloc, out, taxonomy, words),
-    }
-}
-
-// What stands before the first space of words, and behind it.
-fn around_space(words: &str) -> (&str, &str) {
-    match words.split_once(' ') {
-        Some((head, rest)) => (head, rest),
-        None => (words, ""),
     }
 }
 

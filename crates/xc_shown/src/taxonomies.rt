@@ -100,3 +100,11 @@ pub fn push_ids(alloc: Global, out: &mut String, ids: &[NameId]) -> Result<(), A
     }
     Ok(())
 }
+
+/// What stands before the first space of words, and behind it.
+pub fn around_space(words: &str) -> (&str, &str) {
+    match words.split_once(' ') {
+        Some((head, rest)) => (head, rest),
+        None => (words, ""),
+    }
+}

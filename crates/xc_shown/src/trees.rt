@@ -4,6 +4,7 @@
 // would not be seen. Under `= items` a document is only cut into items.
 
 use crate::cases::Part;
+use crate::escapes::{push_escaped, unescaped};
 use std::alloc::{AllocError, Global};
 use xc_elements::{Node, Tree, TreeFault, item_fault, read_tree};
 
@@ -72,7 +73,7 @@ fn show_node(alloc: Global, out: &mut String, node: &Node) -> Result<(), AllocEr
     show_name(out, node.space.as_str(), node.local.as_str())?;
     show_attributes(out, node)?;
     out.push('|')?;
-    show_text(out, node.text.as_str())?;
+    push_escaped(out, node.text.as_str())?;
     out.push('\n')
 }
 
@@ -81,7 +82,7 @@ fn show_attributes(out: &mut String, node: &Node) -> Result<(), AllocError> {
         out.push(' ')?;
         show_name(out, attribute.space.as_str(), attribute.local.as_str())?;
         out.push('=')?;
-        show_text(out, attribute.value.as_str())?;
+        push_escaped(out, attribute.value.as_str())?;
     }
     Ok(())
 }
@@ -93,58 +94,4 @@ fn show_name(out: &mut String, space: &str, local: &str) -> Result<(), AllocErro
         out.push('}')?;
     }
     out.push_str(local)
-}
-
-// A text, with a backslash and a letter for each character that would not be seen.
-fn show_text(out: &mut String, text: &str) -> Result<(), AllocError> {
-    for c in text.chars() {
-        match c {
-            '\n' => out.push_str("\\n")?,
-            '\r' => out.push_str("\\r")?,
-            '\t' => out.push_str("\\t")?,
-            _ => out.push(c)?,
-        }
-    }
-    Ok(())
-}
-
-// The bytes of a line of the data.
-fn unescaped(alloc: Global, line: &str) -> Result<Vec<u8>, AllocError> {
-    let mut bytes = Vec::new(alloc);
-    let mut is_escape = false;
-    for piece in line.split('\\') {
-        let text = if is_escape {
-            put_escape(&mut bytes, piece)?
-        } else {
-            piece
-        };
-        bytes.extend_from_slice(text.as_bytes())?;
-        is_escape = true;
-    }
-    Ok(bytes)
-}
-
-// Puts the bytes that a letter stands for, and hands on what follows it.
-fn put_escape<'a>(bytes: &mut Vec<u8>, piece: &'a str) -> Result<&'a str, AllocError> {
-    let mut rest = piece.chars();
-    if let Some(letter) = rest.next() {
-        bytes.extend_from_slice(bytes_of(letter))?;
-    }
-    Ok(rest.as_str())
-}
-
-fn bytes_of(letter: char) -> &'static [u8] {
-    match letter {
-        'n' => b"\n".as_slice(),
-        'r' => b"\r".as_slice(),
-        't' => b"\t".as_slice(),
-        // a byte order mark
-        'm' => b"\xEF\xBB\xBF".as_slice(),
-        // a control character
-        'c' => b"\x01".as_slice(),
-        // the first of two bytes
-        'h' => b"\xC3".as_slice(),
-        // a byte that no text has
-        _ => b"\xFF".as_slice(),
-    }
 }

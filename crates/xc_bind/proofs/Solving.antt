@@ -1,16 +1,15 @@
 -- What a solution of the system says of the report's own numbers.
-use Rattle.std.proofs.Common.{◌≡◌, ◌+◌, ◌-◌, ◌*◌, ◌^◌, ◌<◌, ◌≤◌, ◌∙◌, ℕ, ℤ, pos, neg_ℤ, ◌+ℤ◌, ◌*ℤ◌, zero, suc, max, List, [], ◌∷◌, length, map, Option, Some, None, slice_get, arith, refl, sym, ap, subst}
+use Rattle.std.proofs.Common.{◌≡◌, ◌+◌, ◌-◌, ◌*◌, ◌^◌, ◌<◌, ◌≤◌, ◌∙◌, ℕ, ℤ, pos, neg_ℤ, ◌+ℤ◌, ◌*ℤ◌, zero, suc, List, [], ◌∷◌, length, map, Option, Some, None, slice_get, arith, refl, sym, ap, subst}
 use Rattle.std.proofs.Math.Nat.{mul-pos}
 use Rattle.std.proofs.lemmas.Int.{ints}
 use Rattle.std.proofs.lemmas.List.Elements.{recursion_from_All}
 use Rattle.std.proofs.lemmas.Nat.{pow-add}
 use Rattle.std.proofs.lemmas.Option.{slice_get_within}
 use Rattle.std.specs.List.{AllByRecursion, AllZip}
-use Rattle.std.specs.Prelude.{All, ◌↔◌, IsSomeAnd}
 use Rattle.xc_bind.specs.Equation.{AddsUp, most_places, weighted_sum, whole_weight}
 use Rattle.xc_bind.specs.Placed.{IsPlaced, IsInside}
 use Rattle.xc_bind.specs.Solved.{MayStandFor, FactsAdmit, AreValuesOver, BindingsHold, SolutionsAdmit}
-use Rattle.xc_bind.specs.Systems.{AreEntries, IsBoundOf, IsEntry, IsEquationOf, IsSystemOf, IsTermEntry}
+use Rattle.xc_bind.specs.Systems.{AreEntries, IsEquationOf, IsTermEntry}
 use Rattle.xc_bind.specs.declared.types.Binding.{Binding}
 use Rattle.xc_bind.specs.declared.types.Term.{Term}
 use Rattle.xc_decimal.specs.Shortest.{Shortest, decimal_number, ten_positive}
@@ -20,15 +19,12 @@ use Rattle.xc_model.proofs.Integers.{neg-mul, mul_assoc, mul_comm}
 use Rattle.xc_model.proofs.Numbers.{same-refl, same-trans, same-product}
 use Rattle.xc_model.proofs.NumbersOver.{number_same, same_number, neg_number, sum_number, equal_number, zero_over}
 use Rattle.xc_model.proofs.Over.{ratio, same_factor}
-use Rattle.xc_model.specs.Fraction.{Fraction, IsNumberOver, SameNumber, whole, neg_of, sum_of, product_of}
+use Rattle.xc_model.specs.Fraction.{Fraction, IsNumberOver, SameNumber, whole, neg_of, product_of}
 use Rattle.xc_model.specs.Ratio.{Ratio, fraction_of}
-use Rattle.xc_points.specs.Facts.{Admits, IsWide}
-use Rattle.xc_points.specs.Gathered.{AreEnds, AreEndsOf, ArePoints}
-use Rattle.xc_points.specs.Kept.{AreKept, Gathered, HasFact}
+use Rattle.xc_points.specs.Gathered.{AreEnds, AreEndsOf}
 use Rattle.xc_points.specs.declared.types.Point.{Point}
 use Rattle.xc_report.specs.declared.reports.Fact.{Fact}
 use Rattle.xc_system.specs.Solutions.{Assignment, Solves, Admits as Lets, Holds, IsZero, weighed}
-use Rattle.xc_system.specs.Systems.{Constraints}
 use Rattle.xc_system.specs.declared.types.Bound.{Bound}
 use Rattle.xc_system.specs.declared.types.Entry.{Entry}
 use Rattle.xc_system.specs.declared.types.Equation.{Equation}

@@ -6,7 +6,8 @@ use native.Mathlib.Numerals.{unary_clauses}
 use Rattle.std.proofs.lemmas.Grind.{reverse_onto}
 use Rattle.std.specs.List.{prefix_len, slice_range}
 use Rattle.xc_chars.specs.Characters.{is_space}
-use Rattle.xc_chars.specs.Trimmed.{without_front, without_end, begins_with_space, ends_with_space}
+use Rattle.xc_chars.specs.Steps.Spaces.{begins_with_space, ends_with_space}
+use Rattle.xc_chars.specs.Trimmed.{without_front, without_end}
 
 -- white space is ASCII
 pub space_is_ascii : (b : ℕ) → is_space b ≡ true → b < 128

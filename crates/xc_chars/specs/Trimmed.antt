@@ -1,5 +1,5 @@
 -- Texts without the white space around them, as their bytes.
-use Rattle.std.specs.Prelude.{ℕ, List, [], ◌∷◌, Bool, false, drop, reverse}
+use Rattle.std.specs.Prelude.{ℕ, List, drop, reverse}
 use Rattle.std.specs.List.{prefix_len}
 use Rattle.xc_chars.specs.Characters.{is_space}
 
@@ -14,12 +14,3 @@ without_end text = reverse (without_front (reverse text))
 -- without either
 abbrev pub trimmed : List ℕ → List ℕ
 trimmed text = without_end (without_front text)
-
--- the first byte is white space
-abbrev pub begins_with_space : List ℕ → Bool
-begins_with_space [] = false
-begins_with_space (b ∷ bs) = is_space b
-
--- the last byte is
-abbrev pub ends_with_space : List ℕ → Bool
-ends_with_space text = begins_with_space (reverse text)

@@ -1,7 +1,8 @@
 // Texts without the white space around them.
 ghost use Rattle.std.specs.Prelude.{◌≡◌};
 ghost use Rattle.xc_chars.specs.Characters.{is_space};
-ghost use Rattle.xc_chars.specs.Trimmed.{without_front, without_end, trimmed, begins_with_space, ends_with_space};
+ghost use Rattle.xc_chars.specs.Steps.Spaces.{begins_with_space, ends_with_space};
+ghost use Rattle.xc_chars.specs.Trimmed.{without_front, without_end, trimmed};
 
 /// The text without white space at its start and at its end: spaces, tabs, line feeds and carriage returns.
 pub fn trimmed(text: &str) -> &str

@@ -7,7 +7,8 @@ use Rattle.std.specs.BTreeMap.{is_at}
 use Rattle.std.specs.Cmp.{IsTotalOrder, eq_by_cmp_equiv}
 use Rattle.std.specs.declared.cmp.Ordering.{Ordering}
 use Rattle.xc_lists.proofs.Positions.{position_from-stays, position_from-push, position_from_congr, position_or_len-before, place_or_len}
-use Rattle.xc_lists.specs.Firsts.{first_equal, first_or_len, IsIndex}
+use Rattle.xc_lists.specs.Firsts.{first_equal, first_or_len}
+use Rattle.xc_lists.specs.Steps.Indexed.{IsIndex}
 
 -- a first place, or else the length
 pub first_or_len-first : {K : Type 0} (cmp : K → K → Ordering) (item : K) (items : List K) → unwrap_or (first_equal cmp item items) (length items) ≡ first_or_len cmp item items

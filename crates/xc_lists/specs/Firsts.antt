@@ -1,5 +1,5 @@
 -- The first of a list's items that is equal to a given one.
-use Rattle.std.specs.Prelude.{◌≡◌, ℕ, List, Option, map}
+use Rattle.std.specs.Prelude.{ℕ, List, Option, map}
 use Rattle.std.specs.List.{position_from, position_or_len}
 use Rattle.std.specs.Ordering.{is_eq}
 use Rattle.std.specs.declared.cmp.Ordering.{Ordering}
@@ -7,10 +7,6 @@ use Rattle.std.specs.declared.cmp.Ordering.{Ordering}
 -- the place of the first item that is equal to this one
 abbrev pub first_equal : {K : Type 0} → (K → K → Ordering) → K → List K → Option ℕ
 first_equal cmp item items = position_from (λ other. is_eq (cmp item other)) 0 items
-
--- the look-up gives for each item the place of the first that is equal to it
-abbrev pub IsIndex : {K : Type 0} → (K → K → Ordering) → (K → Option ℕ) → List K → Type 0
-IsIndex {K} cmp look_up items = (item : K) → look_up item ≡ first_equal cmp item items
 
 -- the same, or how many items there are
 abbrev pub first_or_len : {K : Type 0} → (K → K → Ordering) → K → List K → ℕ

@@ -2,3 +2,4 @@ pub mod Doubles
 pub mod Firsts
 pub mod Lending
 pub mod Places
+pub mod Steps

@@ -1,6 +1,6 @@
 ghost use Rattle.std.specs.Prelude.{◌≡◌, ◌++◌, ◌∷◌, [], List, length, unwrap_or, IfOk, OnOk};
 ghost use Rattle.std.specs.BTreeMap.{get};
-ghost use Rattle.xc_lists.specs.Firsts.{IsIndex};
+ghost use Rattle.xc_lists.specs.Steps.Indexed.{IsIndex};
 
 use crate::memory::Memory;
 use std::alloc::{AllocFailed, Global};
@@ -22,7 +22,8 @@ impl<K: Ord> Model for Firsts<K> {
     ghost use Rattle.std.specs.Prelude.{◌≡◌, List};
     ghost use Rattle.std.specs.BTreeMap.{get};
     ghost use Rattle.std.specs.Coded.{coded_list};
-    ghost use Rattle.xc_lists.specs.Firsts.{IsIndex, first_places};
+    ghost use Rattle.xc_lists.specs.Firsts.{first_places};
+    ghost use Rattle.xc_lists.specs.Steps.Indexed.{IsIndex};
 
     ghost Value = { List K };
 

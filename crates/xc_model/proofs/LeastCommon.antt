@@ -1,13 +1,13 @@
 -- Sums over the least common denominator.
 use Rattle.std.proofs.Common.{◌/◌, ◌≡◌, ◌≢◌, ℕ, ◌*◌, ◌<◌, arith, ℤ, pos, sym, ◌∙◌, ap, subst, inl, inr}
-use Rattle.std.specs.Prelude.{◌+ℤ◌, ◌*ℤ◌, unsigned_abs}
+use Rattle.std.specs.Prelude.{◌+ℤ◌, ◌*ℤ◌}
 use Rattle.std.proofs.lemmas.Int.{ints}
 use Rattle.std.proofs.lemmas.Nat.Gcd.{dvd_antisymm}
 use Prim.Native.Nat.{◌∣◌}
 use native.Mathlib.Nat.{dvd-mul_right, dvd-mul_left, dvd_of_mul-dvd-mul_right, mul-div_cancel', mul-dvd-mul_left}
 use Rattle.xc_model.specs.Divisors.{IsCoprime, IsLeastCommon}
 use Rattle.xc_model.specs.Fraction.{Fraction, SameNumber, sum_of}
-use Rattle.xc_model.specs.Width.{IsNarrow, IsWide, Meets, SumPasses}
+use Rattle.xc_model.specs.Width.{IsNarrow, Meets, SumPasses}
 use Rattle.xc_model.proofs.Gauss.{gauss, IsCoprime-swap}
 use Rattle.xc_model.proofs.Integers.{ring, cancel, mul_comm}
 use Rattle.xc_model.proofs.Lowest.{SameTerms, narrow_or_wide}

@@ -1,5 +1,5 @@
 -- What private steps of the code say. No public clause cites them.
-use Rattle.std.specs.Prelude.{◌≡◌, ◌≤◌, ℕ, List, [], true, false, Option, Some, None, Result, Ok, Err, Vec, vec_capacity, length}
+use Rattle.std.specs.Prelude.{◌≡◌, ◌≤◌, List, [], true, false, Option, Some, None, Result, Ok, Err, Vec, vec_capacity, length}
 use Rattle.std.specs.declared.alloc.Global.{Global}
 use Rattle.serde_json.specs.Data.{Members}
 use Rattle.xc_report.specs.Stated.{are_parts, given_parts}

@@ -1,5 +1,5 @@
 -- A contradiction excludes every assignment.
-use Rattle.std.proofs.Common.{◌≡◌, ℕ, ◌*◌, ◌<◌, Bool, true, false, ◌||◌, List, [], ◌∷◌, length, map, ℤ, pos, ◌+ℤ◌, ◌-ℤ◌, ◌*ℤ◌, ◌<ℤ◌, ◌⊎◌, inl, inr, refl, sym, ap, ap₂, subst, ◌∙◌, arith, Option, Some, None, slice_get}
+use Rattle.std.proofs.Common.{◌≡◌, ℕ, ◌*◌, ◌<◌, Bool, false, ◌||◌, List, [], ◌∷◌, length, map, ℤ, pos, ◌+ℤ◌, ◌-ℤ◌, ◌<ℤ◌, ◌⊎◌, inl, inr, refl, sym, ap, ap₂, subst, arith, Option, Some, None, slice_get}
 use Rattle.std.proofs.Math.Nat.{mul-pos}
 use Rattle.std.proofs.lemmas.Int.{ints}
 use Rattle.std.proofs.lemmas.List.Elements.{recursion_from_All}
@@ -18,16 +18,15 @@ use Rattle.xc_model.specs.Fraction.{Fraction, SameNumber, IsBelow, whole, one_po
 use Rattle.xc_model.specs.Ratio.{Ratio, fraction_of}
 use Rattle.xc_system.proofs.Excluding.{Whole, counts, Contradicts, Meets, excluded}
 use Rattle.xc_system.proofs.Scaling.{up, up_stands, zero_stands, negative_stands, positive_stands, past_stands, before_stands, sum_stands, difference_stands, more_stands, unit_stands, scaled, entries_scaled, total_stands, weighed_stands, Common, common_den, common_both, common_all, common_of}
-use Rattle.xc_system.proofs.Totals.{Term, total, one_at, IsLess}
-use Rattle.xc_system.specs.Kept.{Multipliers, IsRefutation}
+use Rattle.xc_system.proofs.Totals.{total, one_at, IsLess}
+use Rattle.xc_system.specs.Kept.{Multipliers}
 use Rattle.xc_system.specs.Laws.{ExcludesPassing, ExcludesSolutions, SolvingMaySolve}
 use Rattle.xc_system.specs.Refutations as listed
 use Rattle.xc_system.specs.Refutations.{IsContradiction, IsKnown, AdmitsAt, Passes, coefficient, constant, lists_open, low_at, high_at, is_low_open, is_high_open, unit_at}
-use Rattle.xc_system.specs.Solutions.{Assignment, IsZero, IsNegative, Admits, MayAdmit, MaySolve, Solves, Holds, weighed}
-use Rattle.xc_system.specs.Systems.{Constraints, IsSystem, range_at, point_at, equation_at}
+use Rattle.xc_system.specs.Solutions.{Assignment, IsZero, Admits, MayAdmit, Holds, weighed}
+use Rattle.xc_system.specs.Systems.{Constraints, IsSystem, point_at, equation_at}
 use Rattle.xc_system.specs.declared.types.Bound.{Bound}
 use Rattle.xc_system.specs.declared.types.Entry.{Entry}
-use Rattle.xc_system.specs.declared.types.Equation.{Equation}
 
 -- what holds of each holds of each that is made of it
 all_map : {X Y : Type 0} (P : Y → Type 0) (f : X → Y) (xs : List X) → AllByRecursion (λ x. P (f x)) xs → AllByRecursion P (map f xs)

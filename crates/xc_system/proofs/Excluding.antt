@@ -1,11 +1,11 @@
 -- A contradiction over whole numbers: what is listed excludes every list of whole numbers.
-use Rattle.std.proofs.Common.{◌≡◌, ℕ, zero, suc, ◌<◌, Bool, true, false, ◌||◌, List, [], ◌∷◌, ℤ, pos, ◌+ℤ◌, ◌-ℤ◌, ◌*ℤ◌, ◌<ℤ◌, ◌⊎◌, inl, inr, sym, ap, ◌∙◌, arith}
+use Rattle.std.proofs.Common.{◌≡◌, ℕ, zero, suc, ◌<◌, Bool, true, false, ◌||◌, List, ℤ, pos, ◌+ℤ◌, ◌-ℤ◌, ◌*ℤ◌, ◌<ℤ◌, ◌⊎◌, inl, inr, ◌∙◌, arith}
 use Rattle.std.proofs.lemmas.Int.{ints}
 use Rattle.std.proofs.lemmas.Bool.{false≢true}
 use Rattle.std.specs.Prelude.{IsTrue}
 use Rattle.std.specs.List.{AllByRecursion, list_any}
 use Rattle.xc_model.proofs.Integers.{ring, cancel}
-use Rattle.xc_system.proofs.Totals.{sum_below, sum_same, sum_of_zeros, one_at, Term, total, total_same, total_zero, total_by_units, totals_by_units, IsLess, less_plus, total_less}
+use Rattle.xc_system.proofs.Totals.{sum_below, sum_of_zeros, one_at, Term, total, total_same, total_zero, total_by_units, totals_by_units, IsLess, less_plus, total_less}
 
 three_sums : (n : ℕ) (c : ℤ) (z f g h : ℕ → ℤ) → sum_below n (λ j. f j *ℤ z j) +ℤ c *ℤ (sum_below n (λ j. g j *ℤ z j) -ℤ sum_below n (λ j. h j *ℤ z j)) ≡ sum_below n (λ j. (f j +ℤ c *ℤ (g j -ℤ h j)) *ℤ z j)
 three_sums zero c z f g h = omega (arith, ints)

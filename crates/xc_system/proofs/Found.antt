@@ -1,21 +1,21 @@
 -- Grouped by their roots, points and equations make the components.
-use Rattle.std.proofs.Common.{◌≡◌, ◌≢◌, ℕ, zero, suc, ◌+◌, ◌-◌, ◌<◌, ◌≤◌, Bool, true, false, cond, eqb, List, [], ◌∷◌, length, map, get_or, slice_index, Option, Some, None, slice_get, ◌⊎◌, inl, inr, refl, sym, ap, ap₂, subst, ◌∙◌, arith}
+use Rattle.std.proofs.Common.{◌≡◌, ℕ, zero, suc, ◌+◌, ◌-◌, ◌<◌, ◌≤◌, Bool, cond, List, [], ◌∷◌, length, map, get_or, slice_index, Some, slice_get, ◌⊎◌, inl, inr, refl, sym, ap, ap₂, subst, ◌∙◌, arith}
 use Rattle.std.proofs.lemmas.Bool.{cases_eq, eq-eqb, ne_eqb}
 use Rattle.std.proofs.lemmas.List.{length-map, get_or-map}
 use Rattle.std.proofs.lemmas.List.Elements.{recursion_from_All}
 use Rattle.std.specs.Prelude.{All}
 use Rattle.std.proofs.lemmas.List.FromFn.{length-map-range_with_len, get_or-map-range_with_len}
 use Rattle.std.proofs.lemmas.Option.{slice_get_within, get_or_from_slice_get, slice_get-get_or}
-use Rattle.std.specs.List.{AllByRecursion, zip, range_with_len}
+use Rattle.std.specs.List.{AllByRecursion, zip}
 use Rattle.std.specs.Option.{option_map_or}
 use Rattle.xc_lists.specs.Places.{before}
 use Rattle.xc_system.proofs.Joins.{linked_from_roots, root_least, is_in_at}
 use Rattle.xc_system.proofs.Links.{has_within}
 use Rattle.xc_system.proofs.Places.{in_places, places_in, places_ascend, first_least}
-use Rattle.xc_system.specs.Components.{HasPoint, IsLinked, itself, by, IsComponent, Holding, AreComponents, least_of}
+use Rattle.xc_system.specs.Components.{HasPoint, IsLinked, itself, by, IsComponent, AreComponents, least_of}
 use Rattle.xc_system.specs.Members.{IsIn, places_with}
 use Rattle.xc_system.specs.Steps.Owned.{owner_of, component_of}
-use Rattle.xc_system.specs.Steps.Roots.{Descends, IsRoots, IsJoined, rank}
+use Rattle.xc_system.specs.Steps.Roots.{IsRoots, IsJoined, rank}
 use Rattle.xc_system.specs.Systems.{Constraints, equation_at, points_of}
 use Rattle.xc_system.specs.declared.types.Component.{Component}
 use Rattle.xc_system.specs.declared.types.Entry.{Entry}

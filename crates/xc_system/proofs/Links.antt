@@ -1,10 +1,10 @@
 -- Points that equations link, and the components that they make.
-use Rattle.std.proofs.Common.{◌≡◌, ◌≢◌, ℕ, ◌<◌, ◌≤◌, List, [], ◌∷◌, length, get_or, ◌⊎◌, inl, inr, refl, sym, ap, subst, ◌∙◌, arith, Some, slice_get}
+use Rattle.std.proofs.Common.{◌≡◌, ℕ, ◌<◌, ◌≤◌, List, [], ◌∷◌, length, ◌⊎◌, inl, inr, subst, arith}
 use Rattle.std.proofs.lemmas.Bool.{cases_eq}
 use Rattle.std.proofs.lemmas.List.{get_or_past}
 use Rattle.xc_system.specs.Components.{HasPoint, IsLinked, itself, by, IsComponent, least_of}
 use Rattle.xc_system.specs.Members.{IsIn}
-use Rattle.xc_system.specs.Systems.{Constraints, equation_at, points_of}
+use Rattle.xc_system.specs.Systems.{Constraints, points_of}
 use Rattle.xc_system.specs.declared.types.Component.{Component}
 use Rattle.xc_system.specs.declared.types.Equation.{Equation}
 

@@ -1,10 +1,9 @@
 -- What a common scale of a component and its reach say of its width.
-use Rattle.std.proofs.Common.{◌≡◌, ℕ, ◌+◌, ◌*◌, ◌^◌, ◌<◌, ◌≤◌, List, length, Option, Some, None, get_or, refl, sym, ap, ap₂, subst, ◌∙◌, arith, true≢false}
+use Rattle.std.proofs.Common.{◌≡◌, ℕ, ◌+◌, ◌*◌, ◌^◌, ◌<◌, ◌≤◌, length, Option, Some, None, refl, sym, ap, ap₂, subst, ◌∙◌, arith, true≢false}
 use Rattle.std.proofs.Math.Dec.{leb}
 use Rattle.std.proofs.lemmas.Bool.{leb-true, le-leb}
 use Rattle.xc_interval.specs.Laws.{SumsStay, ProductsStay}
 use Rattle.std.specs.Prelude.{IsSome, IsSomeAnd, IfSome, IsTrue, ◌↔◌}
-use Prim.Native.Nat.{◌∣◌}
 use Rattle.std.proofs.Math.Nat.{one-dvd}
 use Rattle.std.proofs.lemmas.Nat.Gcd.{dvd_antisymm, dvd_refl}
 use Rattle.xc_interval.specs.Scales.{HasEndsOnScale, IsMultipleOf, IsNoneBelow, saturated}

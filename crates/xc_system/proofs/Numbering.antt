@@ -1,8 +1,8 @@
 -- Numbers of roots.
-use Rattle.std.proofs.Common.{◌≡◌, ℕ, zero, suc, ◌+◌, ◌<◌, List, [], ◌∷◌, ◌++◌, length, get_or, ◌⊎◌, inl, inr, sym, ap, ◌∙◌, arith, add-one}
+use Rattle.std.proofs.Common.{◌≡◌, ℕ, ◌+◌, ◌<◌, List, [], ◌∷◌, ◌++◌, length, get_or, ◌⊎◌, inl, inr, sym, ap, ◌∙◌, arith, add-one}
 use Rattle.std.proofs.lemmas.Bool.{cases_eq, eq-eqb, ne_eqb}
 use Rattle.std.proofs.lemmas.List.{get_or_append_left, get_or_push}
-use Rattle.xc_system.specs.Steps.Roots.{Descends, IsRoots, rank}
+use Rattle.xc_system.specs.Steps.Roots.{IsRoots, rank}
 
 pub rank_more_own : (up : List ℕ) (p : ℕ) → get_or up p 0 ≡ p → rank up (p + 1) ≡ rank up p + 1
 rank_more_own up p e = rw (add-one, eq-eqb (get_or up p 0) p e)

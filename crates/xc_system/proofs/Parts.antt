@@ -1,23 +1,22 @@
 -- What is shown of each component is shown of the system.
-use Rattle.std.proofs.Common.{◌≡◌, ◌≢◌, ℕ, ◌*◌, ◌<◌, Bool, true, false, cond, List, [], ◌∷◌, length, map, ℤ, pos, ◌+ℤ◌, ◌*ℤ◌, ◌⊎◌, inl, inr, refl, sym, ap, ap₂, subst, ◌∙◌, arith, eqb, Option, Some, None, slice_get}
+use Rattle.std.proofs.Common.{◌≡◌, ◌≢◌, ℕ, ◌*◌, ◌<◌, Bool, cond, List, [], ◌∷◌, length, map, ℤ, pos, ◌+ℤ◌, ◌*ℤ◌, ◌⊎◌, inl, inr, refl, sym, ap, ap₂, subst, ◌∙◌, arith, Some, slice_get}
 use Rattle.std.proofs.lemmas.Bool.{ne_eqb}
 use Rattle.std.proofs.lemmas.Int.{ints}
 use Rattle.std.proofs.lemmas.List.Elements.{recursion_from_All}
-use Rattle.std.proofs.lemmas.Option.{slice_get_within, get_or_from_slice_get, slice_get-get_or}
+use Rattle.std.proofs.lemmas.Option.{slice_get_within, get_or_from_slice_get}
 use Rattle.std.specs.List.{AllByRecursion}
 use Rattle.std.specs.Prelude.{All}
 use Rattle.xc_model.specs.Fraction.{Fraction, whole, sum_of, difference_of, neg_of, product_of}
 use Rattle.xc_model.specs.Ratio.{Ratio, fraction_of}
 use Rattle.xc_system.proofs.Links.{is_in, has_within, closed, owned}
-use Rattle.xc_system.specs.Components.{HasPoint, IsComponent, AreComponents, Holding}
+use Rattle.xc_system.specs.Components.{HasPoint, IsComponent, Holding}
 use Rattle.xc_system.specs.Kept.{Multipliers}
-use Rattle.xc_system.specs.Laws.{Joins, JoinedSolve, PartsSolved, PartContradicts}
+use Rattle.xc_system.specs.Laws.{JoinedSolve, PartsSolved, PartContradicts}
 use Rattle.xc_system.specs.Members.{IsIn}
-use Rattle.xc_system.specs.Refutations.{IsContradiction, IsContradictionOf, IsKnown, IsKnownIn, coefficient, total, unit_at}
-use Rattle.xc_system.specs.Solutions.{Assignment, IsZero, Admits, Holds, SolvesPart, weighed}
-use Rattle.xc_system.specs.Systems.{Constraints, IsSystem, range_at, point_at, equation_at, points_of}
+use Rattle.xc_system.specs.Refutations.{IsKnownIn, coefficient, total, unit_at}
+use Rattle.xc_system.specs.Solutions.{Assignment, IsZero, Admits, Holds, weighed}
+use Rattle.xc_system.specs.Systems.{Constraints, IsSystem, point_at, equation_at, points_of}
 use Rattle.xc_system.specs.declared.types.Bound.{Bound}
-use Rattle.xc_system.specs.declared.types.Component.{Component}
 use Rattle.xc_system.specs.declared.types.Entry.{Entry}
 use Rattle.xc_system.specs.declared.types.Equation.{Equation}
 

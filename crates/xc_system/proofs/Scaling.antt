@@ -1,9 +1,9 @@
 -- Fractions as whole numbers over a common denominator.
-use Rattle.std.proofs.Common.{◌≡◌, ◌≢◌, ℕ, ◌*◌, ◌/◌, ◌<◌, List, [], ◌∷◌, Bool, true, false, cond, ℤ, pos, ◌+ℤ◌, ◌*ℤ◌, ◌<ℤ◌, ◌≤ℤ◌, ◌⊎◌, inl, inr, refl, sym, ap, subst, ◌∙◌, arith, lit<}
+use Rattle.std.proofs.Common.{◌≡◌, ℕ, ◌*◌, ◌/◌, ◌<◌, List, [], ◌∷◌, Bool, true, false, cond, ℤ, pos, ◌+ℤ◌, ◌*ℤ◌, ◌<ℤ◌, inl, inr, sym, ap, subst, ◌∙◌, arith, lit<}
 use Rattle.std.proofs.Math.Nat.{mul-pos, dvd-mul_right}
 use Rattle.std.proofs.lemmas.Int.{ints}
 use Rattle.std.specs.Prelude.{neg_ℤ, map}
-use Rattle.std.specs.List.{AllByRecursion, list_any}
+use Rattle.std.specs.List.{AllByRecursion}
 use Prim.Native.Nat.{◌∣◌}
 use native.Mathlib.Nat.{mul-div_cancel'}
 use Rattle.xc_interval.specs.Ends.{value_of, is_open}

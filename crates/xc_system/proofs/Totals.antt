@@ -1,9 +1,9 @@
 -- Totals of whole numbers over lists of numbered factors, and sums over the numbers below n.
-use Rattle.std.proofs.Common.{◌≡◌, ℕ, zero, suc, ◌<◌, Bool, true, false, cond, ◌||◌, List, [], ◌∷◌, ℤ, pos, ◌+ℤ◌, ◌-ℤ◌, ◌*ℤ◌, ◌≤ℤ◌, ◌<ℤ◌, ◌⊎◌, inl, inr, refl, sym, ap, ap₂, ◌∙◌, arith, eqb}
+use Rattle.std.proofs.Common.{◌≡◌, ℕ, zero, suc, ◌<◌, Bool, true, false, cond, ◌||◌, List, [], ◌∷◌, ℤ, pos, ◌+ℤ◌, ◌*ℤ◌, ◌≤ℤ◌, ◌<ℤ◌, ◌⊎◌, inl, inr, refl, sym, ap, ap₂, ◌∙◌, arith, eqb}
 use Rattle.std.proofs.lemmas.Int.{ints}
 use Rattle.std.proofs.lemmas.Bool.{cases_eq, eq-eqb, ne_eqb}
 use Rattle.std.specs.List.{AllByRecursion, list_any}
-use Rattle.xc_model.proofs.Integers.{ring, add-mul, mul-add, mul_assoc, mul_left_comm, scale_le, scale_lt}
+use Rattle.xc_model.proofs.Integers.{ring, add-mul, mul-add, mul_assoc, scale_le, scale_lt}
 
 -- f 0 + .. + f (n - 1)
 abbrev pub sum_below : ℕ → (ℕ → ℤ) → ℤ

@@ -1,7 +1,7 @@
 -- A component is connected, and its edges are as many as its equations have entries: so it has no cycle, and no equation has a point
 -- twice, exactly where its equations have one entry less than it has points and equations.
-use Rattle.std.proofs.Common.{◌≡◌, ◌≢◌, ℕ, zero, suc, ◌+◌, ◌-◌, ◌≤◌, ◌<◌, List, [], ◌∷◌, ◌++◌, map, length, cond, eqb, ◌⊎◌, inl, inr, refl, sym, ap, ap₂, ◌∙◌, arith, subst, Bool, true, false}
-use Rattle.std.specs.Prelude.{nat_le, sum_by, slice_index}
+use Rattle.std.proofs.Common.{◌≡◌, ℕ, suc, ◌+◌, ◌-◌, ◌≤◌, ◌<◌, List, [], ◌∷◌, ◌++◌, map, length, cond, eqb, ◌⊎◌, inl, inr, refl, sym, ap, ap₂, ◌∙◌, arith, subst, Bool, true, false}
+use Rattle.std.specs.Prelude.{nat_le}
 use Rattle.std.proofs.lemmas.Bool.{cases_eq, eq-eqb, ne_eqb, le-leb, lt-leb}
 use Rattle.std.proofs.lemmas.Bool.Decides.{nat_tests}
 use Rattle.std.specs.List.{AllByRecursion}
@@ -10,8 +10,7 @@ use Rattle.std.specs.Ordering.{nat_cmp}
 use Rattle.std.specs.declared.cmp.Ordering.TheVariants.{Less}
 use Rattle.xc_system.proofs.Counts.{sum_same, sum_plus, sum_zero, removed, removed_sum, removed_distinct, thin_from_count, count_from_thin}
 use Rattle.xc_system.proofs.Graphs.{sum_on, joins, IsThinBy, edges, IsConnected, IsListingOf, IsSimple}
-use Rattle.xc_system.proofs.Joins.{is_in_at}
-use Rattle.xc_system.proofs.Links.{is_in, linked_trans, linked_sym, closed, owned}
+use Rattle.xc_system.proofs.Links.{is_in, linked_sym, closed, owned}
 use Rattle.xc_system.specs.Components.{HasPoint, IsLinked, itself, by, IsComponent, least_of}
 use Rattle.xc_system.specs.Members.{IsIn, IsOnce}
 use Rattle.xc_system.specs.Systems.{Constraints, equation_at, points_of}

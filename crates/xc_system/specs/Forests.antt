@@ -1,10 +1,9 @@
 -- Narrow forests: components without a cycle, whose weights are 1 or -1 and whose numbers leave room for their sums (the width is this
 -- project's own).
-use Rattle.std.specs.Prelude.{◌≡◌, ℕ, ◌+◌, ◌*◌, ◌^◌, ◌<◌, ◌≤◌, ◌⊎◌, ◌↔◌, pos, negsuc, List, [], ◌∷◌, length, Option, IsSome, IfSome, All, sum_by}
+use Rattle.std.specs.Prelude.{◌≡◌, ℕ, ◌+◌, ◌*◌, ◌^◌, ◌<◌, ◌≤◌, ◌⊎◌, ◌↔◌, pos, negsuc, List, [], ◌∷◌, length, IsSome, IfSome, All, sum_by}
 use Rattle.std.specs.Option.{option_map_or}
 use Prim.Native.Nat.{◌∣◌}
 use Rattle.xc_interval.specs.Scales.{HasEndsOnScale, greatest_end}
-use Rattle.xc_interval.specs.declared.interval.Interval.{Interval}
 use Rattle.xc_model.specs.Ratio.{Ratio}
 use Rattle.xc_system.specs.Components.{HasPoint}
 use Rattle.xc_system.specs.Members.{IsIn, IsOnce}

@@ -1,11 +1,9 @@
 -- What a refutation adds up to, and when it contradicts a system (Motzkin's transposition theorem is why there is one wherever no
 -- assignment solves the system).
-use Rattle.std.specs.Prelude.{◌≡◌, ℕ, ◌<◌, ◌==◌, ◌||◌, ◌⊎◌, pos, Bool, false, List, [], ◌∷◌, Option, Some, None, slice_get, length, IsTrue, IsSomeAnd, All, if◌then◌else◌}
+use Rattle.std.specs.Prelude.{◌≡◌, ℕ, ◌<◌, ◌==◌, ◌||◌, ◌⊎◌, pos, Bool, false, List, [], ◌∷◌, Some, slice_get, length, IsTrue, IsSomeAnd, All, if◌then◌else◌}
 use Rattle.std.specs.List.{list_any}
 use Rattle.std.specs.Option.{option_map_or}
 use Rattle.xc_interval.specs.Ends.{value_of, is_open}
-use Rattle.xc_interval.specs.Intervals.{numbers_of, HasNumber}
-use Rattle.xc_interval.specs.declared.interval.Interval.{Interval}
 use Rattle.xc_model.specs.Fraction.{Fraction, whole, sum_of, difference_of, product_of}
 use Rattle.xc_model.specs.Ratio.{Ratio, fraction_of}
 use Rattle.xc_system.specs.Kept.{Multipliers, IsRefutation}

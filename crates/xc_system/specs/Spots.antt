@@ -1,18 +1,17 @@
 -- What all facts of a point allow, and which of them are the tightest.
-use Rattle.std.specs.Prelude.{◌≡◌, ◌++◌, ℕ, pos, Bool, List, ◌∷◌, Option, Some, None, is_none, map, find}
+use Rattle.std.specs.Prelude.{◌≡◌, ◌++◌, ℕ, pos, Bool, List, ◌∷◌, Some, is_none, map, find}
 use Rattle.std.specs.Option.{option_map_or}
 use Rattle.xc_interval.specs.Ends.{end_at}
 use Rattle.xc_interval.specs.Ranges.{IsRangeOf}
 use Rattle.xc_interval.specs.Tightest.{IsTighterLow, IsTighterHigh}
 use Rattle.xc_interval.specs.declared.ends.End.{End}
 use Rattle.xc_interval.specs.declared.ends.End.TheVariants.{Closed}
-use Rattle.xc_interval.specs.declared.interval.Interval.{Interval}
 use Rattle.xc_interval.specs.declared.range.Range.{Range}
 use Rattle.xc_interval.specs.declared.range.Range.TheVariants as range
 use Rattle.xc_model.specs.Fraction.{Fraction, SameNumber, IsBelow, whole}
-use Rattle.xc_model.specs.Ratio.{Ratio, fraction_of}
+use Rattle.xc_model.specs.Ratio.{fraction_of}
 use Rattle.xc_system.specs.Members.{IsIn}
-use Rattle.xc_system.specs.Systems.{Constraints, facts_of, range_at}
+use Rattle.xc_system.specs.Systems.{facts_of, range_at}
 use Rattle.xc_system.specs.declared.types.Bound.{Bound}
 use Rattle.xc_system.specs.declared.types.Side.{Side}
 use Rattle.xc_system.specs.declared.types.Side.TheVariants.{Low, High}

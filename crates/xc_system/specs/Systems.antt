@@ -7,7 +7,6 @@ use Rattle.xc_interval.specs.declared.interval.Interval.{Interval}
 use Rattle.xc_model.specs.Ratio.{Ratio}
 use Rattle.xc_system.specs.Members.{places_with}
 use Rattle.xc_system.specs.declared.types.Bound.{Bound}
-use Rattle.xc_system.specs.declared.types.Entry.{Entry}
 use Rattle.xc_system.specs.declared.types.Equation.{Equation}
 
 -- how many points there are, a bound for each fact, and an equation for each binding

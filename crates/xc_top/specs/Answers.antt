@@ -7,6 +7,8 @@ use Rattle.xc_concepts.specs.declared.fault.SchemaFault.{SchemaFault}
 use Rattle.xc_elements.specs.Codes as tree
 use Rattle.xc_elements.specs.declared.fault.TreeFault.{TreeFault}
 use Rattle.xc_lines.specs.Lines.{read_fault_line, refusal_line, placed_refusal_line}
+use Rattle.xc_names.specs.Codes as names
+use Rattle.xc_names.specs.declared.expansion.NameFault.{NameFault}
 use Rattle.xc_report.specs.Codes as report
 use Rattle.xc_report.specs.declared.reports.ReportFault.{ReportFault}
 use Rattle.xc_top.specs.declared.status.Answer.{Answer}
@@ -56,3 +58,7 @@ link_refusal word fault = numbered_refusal word (link.code_of fault) (link.place
 -- what is answered of a fault of a report, by the part that is wrong or by the id of the fact
 abbrev pub report_refusal : List ℕ → ReportFault → Option Answer
 report_refusal word fault = refusal word (report.code_of fault) (report.place_of fault)
+
+-- what is answered of a fault of a name that the report is asked for, with the word in which it stands
+abbrev pub name_refusal : List ℕ → NameFault → List ℕ → Option Answer
+name_refusal word fault name = refusal word (names.code_of fault) (Some name)

@@ -17,10 +17,11 @@ use Rattle.xc_chars.specs.PlainNames.{split}
 use Rattle.xc_names.specs.Prefixes.{Bindings}
 use Rattle.xc_names.specs.declared.expanded.Expanded.{Expanded}
 use Rattle.xc_names.specs.declared.expanded.NameId.{NameId}
+use Rattle.xc_names.specs.declared.expansion.NameFault.TheVariants.{NoPrefix}
 use Rattle.xc_names.specs.declared.wanted.Wanted.{Wanted}
 use Rattle.xc_report.specs.Opened.{Opened, opened}
 use Rattle.xc_report.specs.declared.reports.ReportFault.{ReportFault}
-use Rattle.xc_top.specs.Answers.{refused_at, report_refusal}
+use Rattle.xc_top.specs.Answers.{name_refusal, report_refusal}
 use Rattle.xc_top.specs.Judged.{Asked, IsFactsAnswer}
 use Rattle.xc_top.specs.Words.{SumWords, name_of, is_negative}
 use Rattle.xc_top.specs.declared.status.Answer.{Answer}
@@ -38,7 +39,7 @@ is_bound prefixes name = option_map_or (λ parts. is_some (get prefixes parts.0)
 
 -- what is answered of a word whose name has a prefix that the report does not declare
 abbrev pub unbound : Bindings → List ℕ → List ℕ × List ℕ → Option Answer
-unbound prefixes report word = if is_bound prefixes word.1 then None else Some (refused_at report (codes "xc:badSumName") word.0)
+unbound prefixes report word = if is_bound prefixes word.1 then None else name_refusal report NoPrefix word.0
 
 -- the number among these names of a name with a declared prefix
 abbrev pub number_in : Bindings → List Expanded → List ℕ → Option ℕ

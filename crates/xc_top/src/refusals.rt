@@ -2,7 +2,7 @@
 ghost use Rattle.std.specs.Prelude.{◌≡◌, Some, option_map, string_bytes};
 ghost use Rattle.xc_top.specs.declared.status.Stop.TheVariants as stop;
 ghost use Rattle.xc_top.specs.Steps.Stops.{IsSettled, IfNamed};
-ghost use Rattle.xc_top.specs.Answers.{make_answer, unread, refused, refused_at, refusal, numbered_refusal, tree_refusal, schema_refusal, link_refusal, report_refusal};
+ghost use Rattle.xc_top.specs.Answers.{make_answer, unread, refused, refused_at, refusal, numbered_refusal, tree_refusal, schema_refusal, link_refusal, report_refusal, name_refusal};
 
 use crate::status::{Answer, Status, Stop};
 use std::alloc::Global;
@@ -11,6 +11,7 @@ use xc_concepts::SchemaFault;
 use xc_elements::TreeFault;
 use xc_lines::{placed_refusal_line, read_fault_line, refusal_line};
 use xc_lists::Items;
+use xc_names::NameFault;
 use xc_report::ReportFault;
 
 // An answer with one line.
@@ -129,4 +130,12 @@ pub fn report_refusal(alloc: Global, word: &str, fault: &ReportFault) -> Stop
     ensures status { IfNamed result (λ answer. IsSettled answer.status) }
 {
     refusal(alloc, word, fault.code(), fault.place())
+}
+
+/// A name that the report is asked for and that has a fault, with the word in which it stands.
+pub fn name_refusal(alloc: Global, word: &str, fault: NameFault, name: &str) -> Stop
+    ensures answer { IfNamed result (λ answer. name_refusal word.now fault name.now ≡ Some answer) }
+    ensures status { IfNamed result (λ answer. IsSettled answer.status) }
+{
+    refusal(alloc, word, fault.code(), Some(name))
 }

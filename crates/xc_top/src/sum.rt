@@ -13,14 +13,14 @@ ghost use Rattle.xc_top.specs.Steps.Views.{asked};
 ghost use Rattle.xc_top.specs.Words.{texts, name_of};
 
 use crate::judged::{Question, answer_facts};
-use crate::refusals::{refused_at, report_refusal};
+use crate::refusals::{name_refusal, report_refusal};
 use crate::status::{Answer, Stop};
 use crate::words::{Sum, is_negative, name_of};
 use std::alloc::Global;
 use xc_calc::{Arc, Network};
 use xc_decimal::{Decimal, read_decimal};
 use xc_lists::{Items, Memory, Text};
-use xc_names::{NameFault, NameId, NameSet, Names, Prefixes, Wanted, expand};
+use xc_names::{NameId, NameSet, Names, Prefixes, Wanted, expand};
 use xc_report::{Draft, open_report};
 
 /// What is answered of the report's bytes.
@@ -133,9 +133,7 @@ fn number_of(
 {
     match expand(names, prefixes, name) {
         Ok(id) => Ok(id),
-        Err(NameFault::Memory) => Err(Stop::Memory),
-        Err(NameFault::NotName) => Err(refused_at(alloc, report, "xc:badSumName", word)),
-        Err(NameFault::NoPrefix) => Err(refused_at(alloc, report, "xc:badSumName", word)),
+        Err(fault) => Err(name_refusal(alloc, report, fault, word)),
     }
 }
 

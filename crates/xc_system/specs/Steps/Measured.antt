@@ -1,5 +1,5 @@
 -- What is summed up and multiplied over lists of facts, and over lists of equations.
-use Rattle.std.specs.Prelude.{ℕ, ◌+◌, ◌*◌, ◌^◌, ◌≤◌, List, length, IsSomeAnd, All, sum_by}
+use Rattle.std.specs.Prelude.{ℕ, List, length, IsSomeAnd, All, sum_by}
 use Rattle.std.specs.Option.{option_map_or}
 use Rattle.xc_interval.specs.Scales.{HasEndsOnScale, greatest_end}
 use Rattle.xc_system.specs.Systems.{range_at, facts_of, equation_at}

@@ -1,4 +1,4 @@
-use Rattle.std.proofs.Common.{rules, ◌≡◌, ◌==◌, ℕ, ◌<◌, ◌≤◌, length, get_or, set, map, ◌+◌, [], ◌∷◌, ◌++◌, List, arith, ap, sym, refl, ◌∙◌, slice_index, filter}
+use Rattle.std.proofs.Common.{rules, ◌≡◌, ◌<◌, ◌≤◌, length, get_or, map, ◌+◌, [], ◌∷◌, ◌++◌, arith, sym, refl, ◌∙◌}
 use Rattle.std.proofs.lemmas.List.{length-set, length-map, map-set, get_or-map}
 use Rattle.xc_system.proofs.Places.{groups_more, more_elsewhere, groups_made}
 use Rattle.xc_system.proofs.grouping.gathered.Goals.{then-number-count+in_ok-push-2, else-number-count}

@@ -1,4 +1,4 @@
-use Rattle.std.proofs.Common.{◌≡◌, ◌<◌, List, Vec, Global, ℕ, length, sym, subst, ap, ◌∙◌, map, slice_index}
+use Rattle.std.proofs.Common.{◌≡◌, ◌<◌, List, Vec, Global, ℕ, length, subst, ap, ◌∙◌, map, slice_index}
 use Rattle.std.proofs.lemmas.Result.{IfOk-weaker}
 use Rattle.xc_lists.specs.Places.{before}
 use Rattle.xc_system.proofs.Found.{found}

@@ -1,5 +1,4 @@
-use Rattle.std.proofs.Common.{rules, ◌≡◌, ℕ, ◌<◌, ◌≤◌, length, min, max, slice_index_or, arith}
-use Rattle.xc_system.specs.Steps.Roots.{Descends, IsRoots, joined}
+use Rattle.std.proofs.Common.{rules, ◌≡◌, arith}
 use Rattle.xc_system.proofs.Pointers.{roots_join}
 use Rattle.xc_system.proofs.roots.join.Goals as goal
 

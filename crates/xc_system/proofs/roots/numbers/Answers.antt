@@ -1,6 +1,6 @@
-use Rattle.std.proofs.Common.{rules, ◌≡◌, ℕ, ◌+◌, ◌<◌, ◌≤◌, length, get_or, slice_index_or, [], ◌∷◌, ◌++◌, List, arith, ap, sym, ◌∙◌}
+use Rattle.std.proofs.Common.{rules, ◌≡◌, ℕ, ◌+◌, ◌<◌, ◌≤◌, length, get_or, [], ◌∷◌, ◌++◌, arith, ap, sym, ◌∙◌}
 use Rattle.std.proofs.lemmas.List.{length_push, get_or_read}
-use Rattle.xc_system.specs.Steps.Roots.{IsRoots, rank}
+use Rattle.xc_system.specs.Steps.Roots.{rank}
 use Rattle.xc_system.proofs.Numbering.{rank_more_own, rank_more_other, numbered_push, number_own}
 use Rattle.xc_system.proofs.roots.numbers.Goals.{then-above-p+in_ok-push, else-above-p+in_ok-push-2}
 use Rattle.xc_system.proofs.roots.numbers.Goals as goal

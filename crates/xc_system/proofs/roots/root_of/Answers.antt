@@ -1,6 +1,5 @@
-use Rattle.std.proofs.Common.{rules, ◌≡◌, ℕ, ◌<◌, ◌≤◌, length, slice_index_or, ◌∙◌, arith, set, get_or, refl}
+use Rattle.std.proofs.Common.{rules, ◌≡◌, ◌<◌, ◌≤◌, length, ◌∙◌, arith, get_or, refl}
 use Rattle.std.proofs.lemmas.List.{length-set}
-use Rattle.xc_system.specs.Steps.Roots.{Descends, IsRoots}
 use Rattle.xc_system.proofs.Pointers.{descends_set, roots_set, root_twice}
 use Rattle.xc_system.proofs.roots.root_of.Goals as goal
 

@@ -1,4 +1,4 @@
-use Rattle.std.proofs.Common.{◌≡◌, ℕ, ◌<◌, ◌≤◌, length, slice_index_or}
+use Rattle.std.proofs.Common.{◌≡◌, ℕ, ◌<◌, length, slice_index_or}
 use Rattle.xc_system.specs.Steps.Roots.{Descends, IsRoots}
 use Rattle.xc_system.proofs.roots.root_of.Given as goal
 

@@ -1,4 +1,4 @@
-use Rattle.std.proofs.Common.{◌≡◌, ℕ, ◌∷◌, List, get_or, take, sym, subst, ◌⊎◌, inl, inr}
+use Rattle.std.proofs.Common.{◌≡◌, ℕ, ◌∷◌, get_or, take, sym, subst, ◌⊎◌, inl, inr}
 use Rattle.std.specs.Prelude.{IsSome}
 use Rattle.xc_system.proofs.Tightness.{first_alone, first_more, graded, one_more}
 use Rattle.xc_system.specs.Spots.{HasTighter, IsFirstTightest}

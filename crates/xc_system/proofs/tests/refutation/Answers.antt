@@ -2,7 +2,7 @@ use Rattle.std.proofs.Common.{◌≡◌, ℕ, List, [], arith, sym, subst}
 use Rattle.std.specs.List.Sorted.{IsStrictlySortedBy}
 use Rattle.xc_model.specs.Ratio.{Ratio}
 use Rattle.xc_system.proofs.tests.refutation.Goals as goal
-use Rattle.xc_system.specs.Kept.{Multipliers, IsRefutation}
+use Rattle.xc_system.specs.Kept.{IsRefutation}
 
 -- nothing multiplied
 none : IsRefutation (record { bindings = []; lows = []; highs = [] })

@@ -1,6 +1,7 @@
 use Rattle.std.proofs.Common.{◌≡◌, ◌++◌, take, drop, map}
 use Rattle.std.specs.BTreeMap.{get}
-use Rattle.xc_lists.specs.Firsts.{IsIndex, first_or_len, first_places}
+use Rattle.xc_lists.specs.Firsts.{first_or_len, first_places}
+use Rattle.xc_lists.specs.Steps.Indexed.{IsIndex}
 use Rattle.xc_lists.proofs.firsts.Firsts.of.Given as goal
 
 abbrev pub invariant-loop-at : goal.invariant-loop-at

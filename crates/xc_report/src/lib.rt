@@ -28,4 +28,3 @@ pub use key_lists::Keys;
 pub use numbered::KeyedFact;
 pub use reports::{Fact, Member, Reading, Report, ReportFault};
 pub use stated::{DimensionName, StatedFact, StatedPart, StatedValue};
-

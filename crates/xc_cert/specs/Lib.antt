@@ -1,0 +1,4 @@
+pub mod Certificates
+pub mod Codes
+pub mod Faults
+pub mod Laws

@@ -1,0 +1,6 @@
+//! Certificates as texts: written, and read back.
+#![tactic(auto)]
+
+mod fault;
+
+pub use fault::CertFault;

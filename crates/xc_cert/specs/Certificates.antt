@@ -13,6 +13,9 @@ use Rattle.xc_system.specs.declared.types.Certificate.TheVariants.{Feasible, Inf
 abbrev pub IsLine : List ℕ → Type 0
 IsLine line = AllByRecursion (λ byte. byte ≢ 10) line
 
+abbrev pub AreLines : List (List ℕ) → Type 0
+AreLines lines = AllByRecursion IsLine lines
+
 -- lines, each ended by a line feed
 abbrev pub text_of : List (List ℕ) → List ℕ
 text_of lines = flat_map (λ line. line ++ codes "\n") lines
@@ -51,6 +54,11 @@ pub record HasNumbers (r : Multipliers) : Type 0 where
   pub bindings : AreNumbers r.bindings
   pub lows : AreNumbers r.lows
   pub highs : AreNumbers r.highs
+
+-- its values can be numbered
+abbrev pub HasFewValues : Certificate → Type 0
+HasFewValues (Feasible values) = length values ≤ 2 ^ 32
+HasFewValues (Infeasible r) = Unit {0}
 
 -- what a text can say: at most 2^32 values; or a refutation, whose numbers are below 2^32
 abbrev pub IsCertificate : Certificate → Type 0

@@ -1,7 +1,6 @@
 -- The first line that fits nowhere in a certificate text, behind those before it.
 use Rattle.std.specs.Prelude.{◌≡◌, ℕ, ◌+◌, List, [], ◌∷◌, ◌++◌, length, codes, Result, Ok, Err}
-use Rattle.std.specs.List.{AllByRecursion}
-use Rattle.xc_cert.specs.Certificates.{IsLine, text_of, IsTextOf}
+use Rattle.xc_cert.specs.Certificates.{IsLine, AreLines, text_of, IsTextOf}
 use Rattle.xc_cert.specs.declared.fault.CertFault.{CertFault}
 use Rattle.xc_cert.specs.declared.fault.CertFault.TheVariants.{Memory, NotCertificate}
 use Rattle.xc_system.specs.declared.types.Certificate.{Certificate}
@@ -18,7 +17,7 @@ pub record Begin (lines : List (List ℕ)) : Type 0 where
 pub record IsFaultAt (bytes : List ℕ) (n : ℕ) : Type 0 where
   pub before : List (List ℕ)
   pub rest : List ℕ
-  pub are_lines : AllByRecursion IsLine before
+  pub are_lines : AreLines before
   pub cut : bytes ≡ text_of before ++ rest
   pub number : n ≡ length before + 1
   pub begin : Begin before

@@ -2,5 +2,12 @@
 #![tactic(auto)]
 
 mod fault;
+pub mod laws;
+mod line;
+mod read;
+mod reader;
+mod write;
 
 pub use fault::CertFault;
+pub use read::read_certificate;
+pub use write::write_certificate;

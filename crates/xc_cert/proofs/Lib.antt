@@ -1,0 +1,12 @@
+pub mod Cutting
+pub mod FirstPlace
+pub mod Lacking
+pub mod Leading
+pub mod Listing
+pub mod Naturals
+pub mod OneText
+pub mod Reached
+pub mod Saying
+pub mod Standing
+pub mod Taking
+pub mod Written

@@ -1,0 +1,15 @@
+//! The checker: whether a certificate proves what it claims of a system, whoever wrote it.
+#![tactic(auto)]
+
+mod feasible;
+mod infeasible;
+mod judging;
+pub mod laws;
+mod lines;
+mod multiples;
+mod scratch;
+mod sums;
+mod types;
+
+pub use judging::verify;
+pub use types::{Judgement, What};

@@ -1,1 +1,7 @@
-pub mod Zero
+pub mod Accepting
+pub mod Adding
+pub mod Amounts
+pub mod Known
+pub mod Meeting
+pub mod Once
+pub mod Results

@@ -14,26 +14,27 @@ use Rattle.xc_system.specs.declared.types.Entry.{Entry}
 use Rattle.xc_system.specs.declared.types.Equation.{Equation}
 use Rattle.xc_system.specs.declared.types.Side.{Side}
 use Rattle.xc_system.specs.declared.types.Side.TheVariants.{Low, High}
-use Rattle.xc_verify.specs.Objections.{Objection, IsFirstOf, IsFirstBelow, IsMetIn, IsNothing}
+use Rattle.xc_verify.specs.Objections.{IsFirstOf, IsFirstBelow, IsMetIn, IsNothing}
 use Rattle.xc_verify.specs.Sums.{Term, plus, minus, plus_product, minus_product}
-use Rattle.xc_verify.specs.declared.types.Judgement.TheVariants.{Misses, WideFact}
+use Rattle.xc_verify.specs.declared.types.Objection.{Objection}
+use Rattle.xc_verify.specs.declared.types.Objection.TheVariants.{Misses, WideFact}
 use Rattle.xc_verify.specs.declared.types.What.TheVariants.{Binding, Fact, Point, Constant}
 
 -- a number with its multiplier, as it is listed
 abbrev pub Line : Type 0
 Line = ℕ × Ratio
 
--- what is met at a line: a binding that the system does not have
-abbrev pub binding_objection : List Equation → Line → Objection
-binding_objection equations m = option_map_or (λ equation. None) (slice_get equations m.0) (Some (Misses (Binding m.0)))
+-- what is met at a binding: that the system does not have it
+abbrev pub binding_objection : List Equation → ℕ → Option Objection
+binding_objection equations i = option_map_or (λ equation. None) (slice_get equations i) (Some (Misses (Binding i)))
 
 -- what is met at a fact: that the system does not have it, or that it is wide
-abbrev pub fact_objection : List Bound → ℕ → Objection
+abbrev pub fact_objection : List Bound → ℕ → Option Objection
 fact_objection bounds k = option_map_or (λ bound. option_map_or (λ interval. None) bound.range (Some (WideFact k))) (slice_get bounds k) (Some (Misses (Fact k)))
 
 -- what is met first at the lines, in order: bindings, low ends, high ends
-abbrev pub line_objection : Constraints → Multipliers → Objection
-line_objection s r = option_or (first_given (binding_objection s.equations) r.bindings)
+abbrev pub line_objection : Constraints → Multipliers → Option Objection
+line_objection s r = option_or (first_given (λ m. binding_objection s.equations m.0) r.bindings)
     (option_or (first_given (λ m. fact_objection s.bounds m.0) r.lows) (first_given (λ m. fact_objection s.bounds m.0) r.highs))
 
 -- what a listed equation adds to the coefficient of a point: for each entry at the point, the multiplier times the weight
@@ -76,7 +77,7 @@ FallsShort s r x = (x.num <ℤ pos 0) ⊎ ((x.num ≡ pos 0) × IsTrue (lists_op
 
 -- what is met first in a refutation: at its lines, then at the points, of each of which the coefficient has to be 0, and then at the
 -- constant
-abbrev pub IsRefutationMet : Constraints → Multipliers → Objection → Type 0
-IsRefutationMet s r o = IsFirstOf (λ o. o ≡ line_objection s r)
+abbrev pub IsRefutationMet : Constraints → Multipliers → Option Objection → Type 0
+IsRefutationMet s r met = IsFirstOf (λ o. o ≡ line_objection s r)
     (IsFirstOf (IsFirstBelow s.points (λ p o. IsMetIn (Point p) IsNothing (coefficient_terms s r p) o))
-    (IsMetIn Constant (FallsShort s r) (constant_terms s r))) o
+    (IsMetIn Constant (FallsShort s r) (constant_terms s r))) met

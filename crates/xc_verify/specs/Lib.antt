@@ -6,3 +6,4 @@ pub mod Objections
 pub mod Operations
 pub mod Steps
 pub mod Sums
+pub mod Zero

@@ -4,7 +4,7 @@ use Rattle.xc_frac.specs.declared.wide.Op.{Op}
 use Rattle.xc_frac.specs.declared.wide.Op.TheVariants.{Add, Sub, Mul}
 use Rattle.xc_frac.specs.declared.wide.Wide.{Wide}
 use Rattle.xc_model.specs.Ratio.{IsLowest, Ratio}
-use Rattle.xc_verify.proofs.Zero.{zero_lowest}
+use Rattle.xc_verify.specs.Zero.{zero_lowest}
 use Rattle.xc_verify.specs.Operations.{IsResult}
 
 -- what a term adds to a sum: a number, its negative, a product of two, or the negative of one

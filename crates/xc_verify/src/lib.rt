@@ -12,4 +12,4 @@ mod sums;
 mod types;
 
 pub use judging::verify;
-pub use types::{Judgement, What};
+pub use types::{Judgement, Objection, What};

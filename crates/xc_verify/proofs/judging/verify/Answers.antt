@@ -1,0 +1,25 @@
+use Rattle.xc_verify.proofs.Accepting.{values_judged, values_accepted, refutation_judged, refutation_accepted}
+use Rattle.xc_verify.proofs.Known.{names_known}
+use Rattle.xc_verify.proofs.judging.verify.Goals as goal
+
+pub returns-in-Feasible-clause-judgement : goal.returns-in-Feasible-clause-judgement
+returns-in-Feasible-clause-judgement c = values_judged c.args.system.now c.args.certificate.now c.in-Feasible.values c.as_slice.result.now c.judged.result c.first_fault.result c.in-Feasible.is c.as_slice.ensures c.first_fault.ensures.met c.judged.ensures
+
+pub returns-in-Feasible-clause-accepted : goal.returns-in-Feasible-clause-accepted
+returns-in-Feasible-clause-accepted c = values_accepted c.args.system.now c.args.certificate.now c.in-Feasible.values c.as_slice.result.now c.judged.result c.first_fault.result c.in-Feasible.is c.as_slice.ensures c.first_fault.ensures.met c.judged.ensures
+    c.first_fault.ensures.system
+
+pub returns-in-Feasible-clause-known : goal.returns-in-Feasible-clause-known
+returns-in-Feasible-clause-known c = names_known c.args.system.now c.args.certificate.now c.judged.result
+    (values_judged c.args.system.now c.args.certificate.now c.in-Feasible.values c.as_slice.result.now c.judged.result c.first_fault.result c.in-Feasible.is c.as_slice.ensures c.first_fault.ensures.met c.judged.ensures)
+
+pub returns-in-Infeasible-clause-judgement : goal.returns-in-Infeasible-clause-judgement
+returns-in-Infeasible-clause-judgement c = refutation_judged c.args.system.now c.args.certificate.now c.in-Infeasible.refutation c.judged-in-Infeasible.result c.first_fault-in-Infeasible.result c.in-Infeasible.is c.first_fault-in-Infeasible.ensures.met c.judged-in-Infeasible.ensures
+
+pub returns-in-Infeasible-clause-accepted : goal.returns-in-Infeasible-clause-accepted
+returns-in-Infeasible-clause-accepted c = refutation_accepted c.args.system.now c.args.certificate.now c.in-Infeasible.refutation c.judged-in-Infeasible.result c.first_fault-in-Infeasible.result c.in-Infeasible.is c.first_fault-in-Infeasible.ensures.met c.judged-in-Infeasible.ensures
+    c.contradictions_exclude.ensures.solutions c.first_fault-in-Infeasible.ensures.system c.first_fault-in-Infeasible.ensures.kept
+
+pub returns-in-Infeasible-clause-known : goal.returns-in-Infeasible-clause-known
+returns-in-Infeasible-clause-known c = names_known c.args.system.now c.args.certificate.now c.judged-in-Infeasible.result
+    (refutation_judged c.args.system.now c.args.certificate.now c.in-Infeasible.refutation c.judged-in-Infeasible.result c.first_fault-in-Infeasible.result c.in-Infeasible.is c.first_fault-in-Infeasible.ensures.met c.judged-in-Infeasible.ensures)

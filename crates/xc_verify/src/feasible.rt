@@ -1,0 +1,115 @@
+// How values are judged.
+ghost use Rattle.std.specs.Prelude.{◌≡◌, ◌<◌, All, length};
+ghost use Rattle.xc_system.specs.Systems.{IsSystem, equation_at, range_at};
+ghost use Rattle.xc_verify.specs.Feasible.{AreValuesMet, IsMetAtPoint, IsMetInside, equation_terms};
+ghost use Rattle.xc_verify.specs.Objections.{IsFirstBelow, IsMetIn, IsNothing};
+ghost use Rattle.xc_verify.specs.Sums.{IsSumOf};
+ghost use Rattle.xc_verify.specs.declared.types.What.TheVariants.{Binding};
+
+use crate::lines::interval_of;
+use crate::sums::{plus_product, unless_nothing, zero};
+use crate::types::{Objection, What};
+use xc_frac::{Frac, Wide};
+use xc_interval::Interval;
+use xc_system::{Entry, System};
+
+/// What is met first in values.
+pub fn first_fault(system: &System, values: &[Frac]) -> Option<Objection>
+    ensures met { AreValuesMet system.now values.now result }
+    ensures system { IsSystem system.now }
+{
+    let points = system.points() as usize;
+    if values.len() != points {
+        let point = values.len().min(points) as u32;
+        return Some(Objection::Misses(What::Point(point)));
+    }
+    if let Some(objection) = first_outside(system, values) {
+        return Some(objection);
+    }
+    first_unmet(system, values)
+}
+
+// What is met first at the points.
+fn first_outside(system: &System, values: &[Frac]) -> Option<Objection>
+    requires { length values.now ≡ system.now.points }
+    ensures { IsFirstBelow system.now.points (IsMetAtPoint system.now.bounds values.now) result }
+{
+    for point in 0..system.points() {
+        if let Some(objection) = outside(system, point, values) {
+            return Some(objection);
+        }
+    }
+    None
+}
+
+// What is met first at the facts of a point.
+fn outside(system: &System, point: u32, values: &[Frac]) -> Option<Objection>
+    requires point { point < system.now.points }
+    requires values { length values.now ≡ system.now.points }
+    ensures { IsMetAtPoint system.now.bounds values.now point result }
+{
+    for fact in system.facts_of(point) {
+        if let Some(objection) = outside_fact(*fact, interval_of(*fact, system.bounds()), point, values) {
+            return Some(objection);
+        }
+    }
+    None
+}
+
+// What is met at a fact with this interval.
+fn outside_fact(
+    fact: u32,
+    interval: Option<Interval<Frac>>,
+    point: u32,
+    values: &[Frac],
+) -> Option<Objection>
+    requires { point < length values.now }
+    ensures { IsMetInside fact values.now point interval result }
+{
+    match interval {
+        None => Some(Objection::WideFact(fact)),
+        Some(interval) => {
+            if interval.contains(values[point as usize]) {
+                return None;
+            }
+            Some(Objection::Misses(What::Point(point)))
+        }
+    }
+}
+
+// What is met first at the equations.
+fn first_unmet(system: &System, values: &[Frac]) -> Option<Objection>
+    requires { length values.now ≡ system.now.points }
+    ensures { IsFirstBelow (length system.now.equations) (λ i met. IsMetIn (Binding i) IsNothing
+        (equation_terms values.now (equation_at system.now.equations i).entries) met) result }
+{
+    for number in 0..system.equations().len() {
+        if let Some(objection) = unmet(system, number as u32, values) {
+            return Some(objection);
+        }
+    }
+    None
+}
+
+// What is met at an equation.
+fn unmet(system: &System, number: u32, values: &[Frac]) -> Option<Objection>
+    requires number { number < length system.now.equations }
+    requires values { length values.now ≡ system.now.points }
+    ensures { IsMetIn (Binding number) IsNothing
+        (equation_terms values.now (equation_at system.now.equations number).entries) result }
+{
+    let entries = system.equations()[number as usize].entries.as_slice();
+    unless_nothing(What::Binding(number), sum_of(entries, values))
+}
+
+// The sum over the entries of weight times value.
+fn sum_of(entries: &[Entry], values: &[Frac]) -> Result<Frac, Wide>
+    requires { All (λ entry. entry.point < length values.now) entries.now }
+    ensures { IsSumOf (equation_terms values.now entries.now) result }
+{
+    let mut sum = Ok(zero());
+    for entry in entries {
+        sum = plus_product(sum, entry.weight, values[entry.point as usize]);
+    }
+    sum
+}

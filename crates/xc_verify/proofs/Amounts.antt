@@ -1,16 +1,16 @@
 -- What terms add up to, as numbers.
-use Rattle.std.proofs.Common.{◌≡◌, ◌<◌, ◌==◌, ℕ, Bool, true, false, cond, List, [], ◌∷◌, ◌++◌, Option, Some, None, Result, Ok, Err, map, filter, filter_map, ℤ, pos, refl, sym, ap, subst, ◌∙◌, arith}
+use Rattle.std.proofs.Common.{◌≡◌, ◌==◌, ℕ, Bool, true, false, cond, List, [], ◌∷◌, ◌++◌, Option, Some, None, Ok, Err, map, filter, ℤ, pos, refl, sym, ap, subst, ◌∙◌, arith}
 use Rattle.std.proofs.lemmas.Int.{ints}
-use Rattle.std.specs.List.{cons_option, flat_map}
+use Rattle.std.specs.List.{cons_option}
 use Rattle.std.specs.Option.{option_map, option_map_or}
-use Rattle.std.specs.Prelude.{neg_ℤ, ◌+ℤ◌, ◌*ℤ◌, ◌<ℤ◌, slice_get}
+use Rattle.std.specs.Prelude.{◌*ℤ◌, ◌<ℤ◌, slice_get}
 use Rattle.xc_frac.specs.declared.wide.Wide.{Wide}
 use Rattle.xc_interval.specs.Ends.{value_of}
 use Rattle.xc_interval.specs.declared.interval.Interval.{Interval}
-use Rattle.xc_model.proofs.Arithmetic.{sum-assoc, sum-comm, sum-zero, product-comm, product-one, product-sum}
+use Rattle.xc_model.proofs.Arithmetic.{sum-assoc, sum-comm, sum-zero, product-one, product-sum}
 use Rattle.xc_model.proofs.Integers.{ring, cancel, cancel_lt, scale_lt, mul_comm}
 use Rattle.xc_model.proofs.Numbers.{den_positive, den_some, same-refl, same-sym, same-trans, same-sum, same-product, same-neg}
-use Rattle.xc_model.specs.Fraction.{Fraction, SameNumber, whole, neg_of, sum_of, difference_of, product_of}
+use Rattle.xc_model.specs.Fraction.{Fraction, SameNumber, whole, neg_of, sum_of, product_of}
 use Rattle.xc_model.specs.Ratio.{Ratio, fraction_of}
 use Rattle.xc_system.specs.Kept.{Multipliers}
 use Rattle.xc_system.specs.Refutations.{total, unit_at, low_at, high_at, coefficient, constant}
@@ -22,7 +22,7 @@ use Rattle.xc_system.specs.declared.types.Equation.{Equation}
 use Rattle.xc_system.specs.declared.types.Side.TheVariants.{Low, High}
 use Rattle.xc_verify.specs.Feasible.{assigned, equation_terms}
 use Rattle.xc_verify.specs.Infeasible.{Line, entry_terms, binding_terms, end_terms, coefficient_terms, value_terms, constant_terms}
-use Rattle.xc_verify.specs.Sums.{Term, plus, minus, plus_product, minus_product, zero_ratio, IsWith, IsNext, IsSum, IsSumOf}
+use Rattle.xc_verify.specs.Sums.{Term, plus, minus, plus_product, minus_product, zero_ratio, IsWith, IsSum, IsSumOf}
 
 -- what a term is worth
 abbrev pub worth : Term → Fraction

@@ -1,5 +1,5 @@
 -- What lines and judgements name.
-use Rattle.std.proofs.Common.{◌≡◌, ◌<◌, ◌⊎◌, ℕ, List, [], ◌∷◌, length, map, get_or, slice_index, Bool, true, false, cond, ◌==◌, min, Option, Some, None, Result, Ok, Err, inl, inr, refl, sym, ap, subst, ◌∙◌}
+use Rattle.std.proofs.Common.{◌≡◌, ◌<◌, ℕ, List, [], ◌∷◌, length, slice_index, Bool, true, false, cond, ◌==◌, min, Option, Some, None, Result, Ok, Err, inl, inr, refl, sym, subst}
 use Rattle.std.proofs.lemmas.List.Elements.{All-from_recursion}
 use Rattle.std.proofs.lemmas.Option.{slice_get_within}
 use Rattle.std.specs.List.{AllByRecursion}
@@ -20,7 +20,7 @@ use Rattle.xc_system.specs.declared.types.Equation.{Equation}
 use Rattle.xc_verify.specs.Feasible.{IsMetInside, IsMetAtPoint, count_objection, equation_terms}
 use Rattle.xc_verify.specs.Infeasible.{Line, FallsShort, binding_objection, fact_objection, line_objection, coefficient_terms, constant_terms}
 use Rattle.xc_verify.specs.Judgements.{IsMet, IsJudgement, IsSummed, NamesKnown}
-use Rattle.xc_verify.specs.Objections.{objection_of, IsFirstOf, IsFirstBelow, IsMetAt, IsMetIn, IsNothing}
+use Rattle.xc_verify.specs.Objections.{IsFirstOf, IsFirstBelow, IsMetAt, IsMetIn, IsNothing}
 use Rattle.xc_verify.specs.Sums.{Term}
 use Rattle.xc_verify.specs.declared.types.Judgement.{Judgement}
 use Rattle.xc_verify.specs.declared.types.Judgement.TheVariants as judgement

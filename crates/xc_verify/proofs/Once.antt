@@ -5,7 +5,6 @@ use Rattle.xc_frac.specs.declared.wide.Op.TheVariants.{Add, Sub, Mul, Div}
 use Rattle.xc_frac.specs.declared.wide.Wide.{Wide}
 use Rattle.xc_interval.specs.declared.interval.Interval.{Interval}
 use Rattle.xc_model.proofs.Numbers.{same-sym, same-trans, quotient_unique}
-use Rattle.xc_model.specs.Fraction.{SameNumber}
 use Rattle.xc_model.specs.Laws.{HasOneLowest}
 use Rattle.xc_model.specs.Ratio.{Ratio, fraction_of}
 use Rattle.xc_system.specs.Systems.{Constraints, equation_at, facts_of, range_at}
@@ -13,7 +12,7 @@ use Rattle.xc_system.specs.declared.types.Certificate.{Certificate}
 use Rattle.xc_system.specs.declared.types.Certificate.TheVariants.{Feasible, Infeasible}
 use Rattle.xc_verify.specs.Feasible.{IsMetInside, IsMetAtPoint, count_objection, equation_terms}
 use Rattle.xc_verify.specs.Infeasible.{FallsShort, coefficient_terms, constant_terms, line_objection}
-use Rattle.xc_verify.specs.Judgements.{IsMet, IsJudgement}
+use Rattle.xc_verify.specs.Judgements.{IsMet}
 use Rattle.xc_verify.specs.Laws.{HasOneJudgement}
 use Rattle.xc_verify.specs.Objections.{objection_of, IsFirstOf, IsFirstBelow, IsMetAt, IsMetIn, IsNothing}
 use Rattle.xc_verify.specs.Operations.{Gives, IsResult}

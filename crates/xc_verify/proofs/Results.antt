@@ -1,15 +1,10 @@
 -- What operations give, and sums that are taken on.
-use Rattle.std.proofs.Common.{◌≡◌, ◌<◌, ◌+◌, ℕ, List, [], ◌∷◌, ◌++◌, length, get_or, drop, Option, Some, None, filter_map, Result, Ok, Err, refl, sym, ap, subst, ◌∙◌, option_map, option_to_list}
+use Rattle.std.proofs.Common.{◌≡◌, ◌<◌, ◌+◌, ℕ, List, [], ◌∷◌, ◌++◌, length, get_or, drop, Option, Some, None, filter_map, Result, refl, sym, ap, subst, ◌∙◌, option_to_list}
 use Rattle.std.proofs.lemmas.List.{drop_more}
 use Rattle.std.specs.List.{cons_option}
-use Rattle.std.specs.Prelude.{IfOk, IfErr, OnOk, OnErr}
-use Rattle.xc_frac.specs.Passes.{Passes}
-use Rattle.xc_frac.specs.declared.wide.Op.{Op}
-use Rattle.xc_frac.specs.declared.wide.Op.TheVariants.{Add, Sub, Mul}
 use Rattle.xc_frac.specs.declared.wide.Wide.{Wide}
 use Rattle.xc_model.specs.Ratio.{Ratio}
-use Rattle.xc_verify.specs.Operations.{Gives, IsResult}
-use Rattle.xc_verify.specs.Sums.{Term, plus_product, minus_product, IsOnward, IsWith, IsNext, IsSum}
+use Rattle.xc_verify.specs.Sums.{Term, IsNext, IsSum}
 
 -- one term
 pub sum_one : (a b : Result Ratio Wide) (t : Term) → IsNext a t b → IsSum a (t ∷ []) b

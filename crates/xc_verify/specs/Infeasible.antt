@@ -1,5 +1,5 @@
 -- How a refutation is judged.
-use Rattle.std.specs.Prelude.{◌≡◌, ℕ, ◌==◌, ◌++◌, ◌⊎◌, pos, ◌<ℤ◌, List, [], ◌∷◌, Option, Some, None, IsTrue, slice_get, map, filter, filter_map}
+use Rattle.std.specs.Prelude.{◌≡◌, ℕ, ◌==◌, ◌++◌, ◌⊎◌, pos, ◌<ℤ◌, List, Option, Some, None, IsTrue, slice_get, map, filter, filter_map}
 use Rattle.std.specs.List.{flat_map}
 use Rattle.std.specs.Option.{option_map, option_map_or, option_or}
 use Rattle.xc_interval.specs.Ends.{value_of}

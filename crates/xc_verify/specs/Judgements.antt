@@ -1,5 +1,5 @@
 -- The judgement of a certificate, and what a certificate proves.
-use Rattle.std.specs.Prelude.{ℕ, ◌<◌, length, Option}
+use Rattle.std.specs.Prelude.{◌<◌, length, Option}
 use Rattle.xc_system.specs.Refutations.{IsContradiction}
 use Rattle.xc_system.specs.Solutions.{Assignment, Solves, MaySolve}
 use Rattle.xc_system.specs.Systems.{Constraints}

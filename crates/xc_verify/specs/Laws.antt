@@ -1,8 +1,8 @@
 -- What follows from the definitions for all systems and certificates.
 use Rattle.std.specs.Prelude.{◌≡◌}
-use Rattle.xc_system.specs.Systems.{Constraints, IsSystem}
+use Rattle.xc_system.specs.Systems.{Constraints}
 use Rattle.xc_system.specs.declared.types.Certificate.{Certificate}
-use Rattle.xc_verify.specs.Judgements.{IsJudgement, Proves}
+use Rattle.xc_verify.specs.Judgements.{IsJudgement}
 use Rattle.xc_verify.specs.declared.types.Judgement.{Judgement}
 
 -- a certificate has one judgement

@@ -1,9 +1,9 @@
 -- The checker's sums: terms are added in a given order, and the first operation that passes ends a sum.
-use Rattle.std.specs.Prelude.{◌≡◌, pos, ◌<ℤ◌, List, [], ◌∷◌, Result, Ok, Err}
+use Rattle.std.specs.Prelude.{◌≡◌, pos, List, [], ◌∷◌, Result, Ok, Err}
 use Rattle.xc_frac.specs.declared.wide.Op.{Op}
 use Rattle.xc_frac.specs.declared.wide.Op.TheVariants.{Add, Sub, Mul}
 use Rattle.xc_frac.specs.declared.wide.Wide.{Wide}
-use Rattle.xc_model.specs.Ratio.{IsLowest, Ratio}
+use Rattle.xc_model.specs.Ratio.{Ratio}
 use Rattle.xc_verify.specs.Zero.{zero_lowest}
 use Rattle.xc_verify.specs.Operations.{IsResult}
 

@@ -49,7 +49,12 @@ fn outside(system: &System, point: u32, values: &[Frac]) -> Option<Objection>
     ensures { IsMetAtPoint system.now.bounds values.now point result }
 {
     for fact in system.facts_of(point) {
-        if let Some(objection) = outside_fact(*fact, interval_of(*fact, system.bounds()), point, values) {
+        if let Some(objection) = outside_fact(
+            *fact,
+            interval_of(*fact, system.bounds()),
+            point,
+            values,
+        ) {
             return Some(objection);
         }
     }

@@ -1,5 +1,5 @@
 // How a refutation is judged.
-ghost use Rattle.std.specs.Prelude.{◌≡◌, ◌<◌, ◌≤◌, ℕ, length, option_map, option_to_list};
+ghost use Rattle.std.specs.Prelude.{◌≡◌, ◌<◌, ◌≤◌, ℕ, List, length, option_map, option_to_list};
 ghost use Rattle.std.specs.List.{list_any};
 ghost use Rattle.xc_interval.specs.Ends.{is_open};
 ghost use Rattle.xc_system.specs.Kept.{IsRefutation};
@@ -8,7 +8,7 @@ ghost use Rattle.xc_system.specs.Systems.{IsSystem};
 ghost use Rattle.xc_verify.specs.Infeasible.{FallsShort, IsRefutationMet, coefficient_terms, constant_terms, value_term, value_terms};
 ghost use Rattle.xc_verify.specs.Objections.{IsFirstBelow, IsMetAt, IsMetIn, IsNothing};
 ghost use Rattle.xc_verify.specs.Steps.Running.{is_open_on, sum_at};
-ghost use Rattle.xc_verify.specs.Sums.{IsNext, IsSum, IsSumOf};
+ghost use Rattle.xc_verify.specs.Sums.{IsNext, IsSum, IsSumOf, Term};
 ghost use Rattle.xc_verify.specs.declared.types.What.TheVariants.{Constant, Point};
 
 use crate::lines::{first_unknown, interval_of};
@@ -57,27 +57,24 @@ fn at_points(
     ensures { IsFirstBelow system.now.points (λ p met. IsMetIn (Point p) IsNothing
         (coefficient_terms system.now refutation.now p) met) result }
 {
+    // The multipliers have been added up: only the contract speaks of them.
+    let _listed = refutation;
     for point in 0..system.points() {
-        let coefficient = sum_at(sums, stops, point);
-        if let Some(objection) = at_point(system, refutation, point, coefficient) {
+        if let Some(objection) = at_point(point, sums, stops) {
             return Some(objection);
         }
     }
     None
 }
 
-// What is met at a point with this coefficient.
-fn at_point(
-    system: &System,
-    refutation: &Refutation,
-    point: u32,
-    coefficient: Result<Frac, Wide>,
-) -> Option<Objection>
-    requires { IsSumOf (coefficient_terms system.now refutation.now point) coefficient }
-    ensures { IsMetIn (Point point) IsNothing (coefficient_terms system.now refutation.now point) result }
+// What is met at a point, whose coefficient this is.
+fn at_point(point: u32, sums: &[Frac], stops: &[Option<Wide>]) -> Option<Objection>
+    requires sums { point < length sums.now }
+    requires stops { point < length stops.now }
+    ensures { (terms : List Term) → IsSumOf terms (sum_at sums.now stops.now point)
+        → IsMetIn (Point point) IsNothing terms result }
 {
-    let _of = (system, refutation);
-    unless_nothing(What::Point(point), coefficient)
+    unless_nothing(What::Point(point), sum_at(sums, stops, point))
 }
 
 // What is met at the constant.

@@ -67,13 +67,7 @@ fn add_equation(
 }
 
 // Adds a product at a point.
-fn add_product(
-    sums: &mut [Frac],
-    stops: &mut [Option<Wide>],
-    point: u32,
-    left: Frac,
-    right: Frac,
-)
+fn add_product(sums: &mut [Frac], stops: &mut [Option<Wide>], point: u32, left: Frac, right: Frac)
     requires sums { point < length sums.old }
     requires stops { point < length stops.old }
     ensures { Adds (at_point point (plus_product left right)) (sum_at sums.old stops.old) (sum_at sums.new stops.new) }
@@ -97,18 +91,18 @@ fn add_ends(
         (sum_at sums.old stops.old) (sum_at sums.new stops.new) }
 {
     for (fact, factor) in lines {
-        add_end(side, sums, stops, system.bounds()[*fact as usize].point, *factor);
+        add_end(
+            side,
+            sums,
+            stops,
+            system.bounds()[*fact as usize].point,
+            *factor,
+        );
     }
 }
 
 // Adds a multiplier of an end at a point.
-fn add_end(
-    side: Side,
-    sums: &mut [Frac],
-    stops: &mut [Option<Wide>],
-    point: u32,
-    factor: Frac,
-)
+fn add_end(side: Side, sums: &mut [Frac], stops: &mut [Option<Wide>], point: u32, factor: Frac)
     requires sums { point < length sums.old }
     requires stops { point < length stops.old }
     ensures { Adds (at_point point (end_term side factor)) (sum_at sums.old stops.old) (sum_at sums.new stops.new) }

@@ -1,11 +1,10 @@
-use Rattle.std.proofs.Common.{◌≡◌, Result, Ok, List, ap, subst, ◌∙◌}
-use Rattle.xc_frac.specs.declared.wide.Wide.{Wide}
+use Rattle.std.proofs.Common.{Ok, List, subst}
 use Rattle.xc_model.specs.Ratio.{Ratio}
 use Rattle.xc_system.specs.declared.types.Bound.{Bound}
 use Rattle.xc_system.specs.declared.types.Side.TheVariants.{Low, High}
 use Rattle.xc_verify.proofs.Results.{sum_append}
 use Rattle.xc_verify.specs.Infeasible.{Line, value_terms}
-use Rattle.xc_verify.specs.Sums.{IsSum, Term, zero_ratio}
+use Rattle.xc_verify.specs.Sums.{IsSum, zero_ratio}
 use Rattle.xc_verify.proofs.infeasible.at_constant.Goals as goal
 
 pub returns : goal.returns

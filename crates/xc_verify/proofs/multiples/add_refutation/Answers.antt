@@ -1,4 +1,4 @@
-use Rattle.std.proofs.Common.{◌≡◌, ◌++◌, ◌<◌, List, Result, Ok, length, sym, ap, subst}
+use Rattle.std.proofs.Common.{◌≡◌, ◌++◌, ◌<◌, List, Result, Ok, length, sym, subst}
 use Rattle.std.specs.Prelude.{All}
 use Rattle.xc_frac.specs.declared.wide.Wide.{Wide}
 use Rattle.xc_model.specs.Ratio.{Ratio}

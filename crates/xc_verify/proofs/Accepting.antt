@@ -1,5 +1,6 @@
 -- What is accepted is proved.
-use Rattle.std.proofs.Common.{◌≡◌, ◌<◌, ℕ, suc, List, [], ◌∷◌, length, map, get_or, slice_index, Option, Some, None, Result, Ok, Err, inl, inr, sym, ap, subst, ◌∙◌, arith}
+use Rattle.std.proofs.Common.{◌≡◌, ◌<◌, ◌==◌, Bool, true, false, cond, min, refl, ℕ, suc, List, [], ◌∷◌, length, map, get_or, slice_index, Option, Some, None, Result, Ok, Err, inl, inr, sym, ap, subst, ◌∙◌, arith}
+use Rattle.std.proofs.lemmas.Bool.{eqb-true}
 use Rattle.std.proofs.lemmas.List.{length-map, get_or-map}
 use Rattle.std.proofs.lemmas.Option.{slice_get_within, get_or_from_slice_get}
 use Rattle.std.specs.Option.{option_map_or}
@@ -29,6 +30,7 @@ use Rattle.xc_verify.specs.Sums.{Term, IsSumOf}
 use Rattle.xc_verify.specs.declared.types.Judgement.{Judgement}
 use Rattle.xc_verify.specs.declared.types.Judgement.TheVariants.{Accepted}
 use Rattle.xc_verify.specs.declared.types.Objection.{Objection}
+use Rattle.xc_verify.specs.declared.types.Objection.TheVariants.{Misses}
 use Rattle.xc_verify.specs.declared.types.What.{What}
 use Rattle.xc_verify.specs.declared.types.What.TheVariants.{Point, Binding, Constant}
 
@@ -57,6 +59,13 @@ fact_placed bounds k bound there = place_of k (facts_of bounds bound.point) (pla
     at = get_or-map (λ (b : Bound). b.point) bounds k bound 0 (slice_get_within bounds k bound there) ∙ ap (λ (b : Bound). b.point) (get_or_from_slice_get bounds k bound bound there)
 
 module _ (s : Constraints) (values : List Ratio) (ok : IsSystem s) (h : AreValuesMet s values None) where
+  counted : length values ≡ s.points
+  counted = go (length values == s.points) refl h.0
+    where
+      go : (b : Bool) → (length values == s.points) ≡ b → None ≡ cond b None (Some (Misses (Point (min (length values) s.points)))) → length values ≡ s.points
+      go true e z = eqb-true (length values) s.points e
+      go false e z = absurd (nothing _ z)
+
   admitted_at : (k : ℕ) (bound : Bound) → slice_get s.bounds k ≡ Some bound → Admits bound (assigned values bound.point)
   admitted_at k bound there = by bound.range (subst (λ (o : Option Bound). IsMetInside k values bound.point (option_map_or (λ b. b.range) o None) None) there here)
     where
@@ -77,8 +86,8 @@ module _ (s : Constraints) (values : List Ratio) (ok : IsSystem s) (h : AreValue
   holds_at i equation there = zero_same (amount (equation_terms values equation.entries)) (weighed equation.entries (assigned values)) (equation_worth values equation.entries)
       (subst (λ (e : Equation). IsZero (amount (equation_terms values e.entries))) (get_or_from_slice_get s.equations i equation (record { entries = [] }) there) (summed (Binding i) (equation_terms values (equation_at s.equations i).entries) (h.1.1 i (slice_get_within s.equations i equation there))))
 
-  pub values_solve : Solves s (assigned values)
-  values_solve = record { admitted = admitted_at; met = holds_at }
+  pub values_solve : (length values ≡ s.points) × Solves s (assigned values)
+  values_solve = (counted, record { admitted = admitted_at; met = holds_at })
 
 module _ (s : Constraints) (r : Multipliers) (kept : IsRefutation r) (h : IsRefutationMet s r None) where
   short_at : (end : Result Ratio Wide) → IsSumOf (constant_terms s r) end → IsMetAt Constant (FallsShort s r) end None → IsShort s r

@@ -4,4 +4,5 @@ pub mod Amounts
 pub mod Known
 pub mod Meeting
 pub mod Once
+pub mod Refusing
 pub mod Results

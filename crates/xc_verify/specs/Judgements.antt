@@ -1,5 +1,5 @@
 -- The judgement of a certificate, and what a certificate proves.
-use Rattle.std.specs.Prelude.{◌<◌, length, Option}
+use Rattle.std.specs.Prelude.{◌≡◌, ◌<◌, length, Option}
 use Rattle.xc_system.specs.Refutations.{IsContradiction}
 use Rattle.xc_system.specs.Solutions.{Assignment, Solves, MaySolve}
 use Rattle.xc_system.specs.Systems.{Constraints}
@@ -23,11 +23,18 @@ IsMet s (Infeasible r) met = IsRefutationMet s r met
 abbrev pub IsJudgement : Constraints → Certificate → Judgement → Type 0
 IsJudgement s c j = IsMet s c (objection_of j)
 
--- what a certificate claims of the system, told without a checker: its values solve it; or its multipliers contradict it, so that no
--- assignment solves it, whatever a wide fact might stand for
+-- what a certificate claims of the system, told without a checker: it has a value for each point, and these solve it; or its
+-- multipliers contradict it, so that no assignment solves it, whatever a wide fact might stand for
 abbrev pub Proves : Constraints → Certificate → Type 0
-Proves s (Feasible values) = Solves s (assigned values)
+Proves s (Feasible values) = (length values ≡ s.points) × Solves s (assigned values)
 Proves s (Infeasible r) = IsContradiction s r × ((z : Assignment) → ¬ MaySolve s z)
+
+-- the judgement names an operation that passes 128 bits
+abbrev pub IsTooWide : Judgement → Type 0
+IsTooWide Accepted = ⊥
+IsTooWide (Misses what) = ⊥
+IsTooWide (WideFact k) = ⊥
+IsTooWide (TooWide what w) = Unit {0}
 
 -- an operation is told of a point, a binding or the constant
 abbrev pub IsSummed : What → Type 0

@@ -1,6 +1,6 @@
 // The judgement of a certificate.
-ghost use Rattle.std.specs.Prelude.{◌≡◌, ◌≤◌, length};
-ghost use Rattle.xc_verify.specs.Judgements.{IsJudgement, NamesKnown, Proves};
+ghost use Rattle.std.specs.Prelude.{◌≡◌, ◌≤◌, ◌⊎◌, length};
+ghost use Rattle.xc_verify.specs.Judgements.{IsJudgement, IsTooWide, NamesKnown, Proves};
 
 use crate::types::{Judgement, judged};
 use crate::{feasible, infeasible};
@@ -8,7 +8,8 @@ use xc_system::laws::contradictions_exclude;
 use xc_system::{Certificate, Scratch, System};
 
 /// Whether a certificate proves what it claims of the system: that its values solve it, or that its multipliers
-/// contradict it. Whoever wrote it, `Accepted` is a proof. Anything else says what was met first, in a fixed order.
+/// contradict it. Whoever wrote it, `Accepted` is a proof, and a proof is accepted, unless an operation passes 128 bits.
+/// Anything else than `Accepted` says what was met first, in a fixed order.
 ///
 /// It takes no memory beyond the scratch, which was made for at least the system's points, and goes once through the
 /// certificate and through the entries of the equations that it lists.
@@ -17,6 +18,7 @@ pub fn verify(system: &System, certificate: &Certificate, scratch: &mut Scratch)
     requires stops { system.now.points ≤ length scratch.old.stops }
     ensures judgement { IsJudgement system.now certificate.now result }
     ensures accepted { result ≡ Judgement.Accepted → Proves system.now certificate.now }
+    ensures proof { Proves system.now certificate.now → (result ≡ Judgement.Accepted) ⊎ IsTooWide result }
     ensures known { NamesKnown system.now result }
     ensures sums { length scratch.new.sums ≡ length scratch.old.sums }
     ensures stops { length scratch.new.stops ≡ length scratch.old.stops }

@@ -1,5 +1,6 @@
 use Rattle.xc_verify.proofs.Accepting.{values_judged, values_accepted, refutation_judged, refutation_accepted}
 use Rattle.xc_verify.proofs.Known.{names_known}
+use Rattle.xc_verify.proofs.Refusing.{proof_accepted}
 use Rattle.xc_verify.proofs.judging.verify.Goals as goal
 
 pub returns-in-Feasible-clause-judgement : goal.returns-in-Feasible-clause-judgement
@@ -22,4 +23,12 @@ returns-in-Infeasible-clause-accepted c = refutation_accepted c.args.system.now 
 
 pub returns-in-Infeasible-clause-known : goal.returns-in-Infeasible-clause-known
 returns-in-Infeasible-clause-known c = names_known c.args.system.now c.args.certificate.now c.judged-in-Infeasible.result
+    (refutation_judged c.args.system.now c.args.certificate.now c.in-Infeasible.refutation c.judged-in-Infeasible.result c.first_fault-in-Infeasible.result c.in-Infeasible.is c.first_fault-in-Infeasible.ensures.met c.judged-in-Infeasible.ensures)
+
+pub returns-in-Feasible-clause-proof : goal.returns-in-Feasible-clause-proof
+returns-in-Feasible-clause-proof c = proof_accepted c.args.system.now c.args.certificate.now c.judged.result
+    (values_judged c.args.system.now c.args.certificate.now c.in-Feasible.values c.as_slice.result.now c.judged.result c.first_fault.result c.in-Feasible.is c.as_slice.ensures c.first_fault.ensures.met c.judged.ensures)
+
+pub returns-in-Infeasible-clause-proof : goal.returns-in-Infeasible-clause-proof
+returns-in-Infeasible-clause-proof c = proof_accepted c.args.system.now c.args.certificate.now c.judged-in-Infeasible.result
     (refutation_judged c.args.system.now c.args.certificate.now c.in-Infeasible.refutation c.judged-in-Infeasible.result c.first_fault-in-Infeasible.result c.in-Infeasible.is c.first_fault-in-Infeasible.ensures.met c.judged-in-Infeasible.ensures)

@@ -3,9 +3,9 @@ use Rattle.std.proofs.Common.{◌≡◌, ℕ, ◌+◌, ◌<◌, ◌≤◌, ◌^�
 use Rattle.std.specs.Prelude.{codes, decimal}
 use Rattle.std.specs.List.{enumerate_from}
 use Rattle.std.proofs.lemmas.Bool.{cases_lt}
-use Rattle.xc_cert.specs.Certificates.{IsLine, AreLines, AreNumbers, ArePassed, IsCertificate, IsTextOf, opening, numbered_line, numbered_lines, certificate_lines, text_of}
+use Rattle.xc_cert.specs.Certificates.{IsLine, AreLines, AreNumbers, IsPassed, ArePassed, IsPassedText, IsCertificate, IsTextOf, opening, numbered_line, numbered_lines, certificate_lines, certificate_text, text_of}
 use Rattle.xc_cert.specs.Faults.{Begin, IsFaultAt}
-use Rattle.xc_cert.specs.Laws.{OneCertificate, TextOrFault, OneFault, WrittenIsText}
+use Rattle.xc_cert.specs.Laws.{OneCertificate, TextOrFault, OneFault, WrittenIsText, PassedTextsJoin}
 use Rattle.xc_cert.specs.Steps.Reading.{Gathered, nothing, Leads, ended}
 use Rattle.xc_cert.proofs.Cutting.{text_of-append, Continues, lines_meet, lines_within, lines_whole}
 use Rattle.xc_cert.proofs.Lacking.{all_append, all_back, lacks_append, lacks_by, decimal_lacks, spelling_lacks}
@@ -119,4 +119,7 @@ one_fault bytes m n f g = elim (cases_lt m n) [
 ]
 
 pub written_is_text : WrittenIsText
-written_is_text passed c a sound = record { sound = sound; passed = passed; are_passed = a; is = sym (text_of-append passed (certificate_lines c)) }
+written_is_text front c p sound = record { sound = sound; passed = p.lines; are_passed = p.are_passed; is = ap (λ t. t ++ certificate_text c) p.is ∙ sym (text_of-append p.lines (certificate_lines c)) }
+
+pub passed_texts_join : PassedTextsJoin
+passed_texts_join one other p q = record { lines = p.lines ++ q.lines; are_passed = all_append IsPassed p.lines q.lines p.are_passed q.are_passed; is = (λ i. p.is i ++ q.is i) ∙ sym (text_of-append p.lines q.lines) }

@@ -74,6 +74,12 @@ IsPassed line = IsLine line × (line ≢ opening)
 abbrev pub ArePassed : List (List ℕ) → Type 0
 ArePassed lines = AllByRecursion IsPassed lines
 
+-- the bytes are such lines, each ended by a line feed
+pub record IsPassedText (bytes : List ℕ) : Type 0 where
+  pub lines : List (List ℕ)
+  pub are_passed : ArePassed lines
+  pub is : bytes ≡ text_of lines
+
 -- the bytes are a text of the certificate: lines that are passed over, and then those that say it
 pub record IsTextOf (bytes : List ℕ) (certificate : Certificate) : Type 0 where
   pub sound : IsCertificate certificate

@@ -1,6 +1,6 @@
 -- What follows from the definitions for all bytes and certificates.
 use Rattle.std.specs.Prelude.{◌≡◌, ℕ, List, ◌++◌}
-use Rattle.xc_cert.specs.Certificates.{certificate_text, text_of, ArePassed, IsCertificate, IsTextOf}
+use Rattle.xc_cert.specs.Certificates.{certificate_text, IsCertificate, IsPassedText, IsTextOf}
 use Rattle.xc_cert.specs.Faults.{IsFaultAt}
 use Rattle.xc_system.specs.declared.types.Certificate.{Certificate}
 
@@ -18,4 +18,8 @@ OneFault = (bytes : List ℕ) (one other : ℕ) → IsFaultAt bytes one → IsFa
 
 -- what is written of a certificate is a text of it, whatever lines other than `certificate 1` stand before
 abbrev pub WrittenIsText : Type 0
-WrittenIsText = (passed : List (List ℕ)) (certificate : Certificate) → ArePassed passed → IsCertificate certificate → IsTextOf (text_of passed ++ certificate_text certificate) certificate
+WrittenIsText = (front : List ℕ) (certificate : Certificate) → IsPassedText front → IsCertificate certificate → IsTextOf (front ++ certificate_text certificate) certificate
+
+-- such lines, one text of them behind the other, are such lines
+abbrev pub PassedTextsJoin : Type 0
+PassedTextsJoin = (one other : List ℕ) → IsPassedText one → IsPassedText other → IsPassedText (one ++ other)

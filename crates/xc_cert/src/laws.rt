@@ -1,7 +1,7 @@
 //! What follows from the definitions for all bytes and certificates.
 //!
 //! Each function does nothing: its contract is the law.
-ghost use Rattle.xc_cert.specs.Laws.{OneCertificate, TextOrFault, OneFault, WrittenIsText};
+ghost use Rattle.xc_cert.specs.Laws.{OneCertificate, TextOrFault, OneFault, WrittenIsText, PassedTextsJoin};
 
 use xc_decimal::laws::one_spelling;
 
@@ -25,4 +25,9 @@ pub fn one_fault()
 /// What is written of a certificate is a text of it, whatever lines other than `certificate 1` stand before.
 pub fn written_is_text()
     ensures { WrittenIsText }
+{}
+
+/// Texts of lines that are passed over before a certificate, one behind the other, are one.
+pub fn passed_texts_join()
+    ensures { PassedTextsJoin }
 {}

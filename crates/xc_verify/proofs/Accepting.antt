@@ -25,6 +25,7 @@ use Rattle.xc_verify.proofs.Known.{bindings_there, lows_known, highs_known}
 use Rattle.xc_verify.specs.Feasible.{assigned, equation_terms, IsMetInside, AreValuesMet}
 use Rattle.xc_verify.specs.Infeasible.{coefficient_terms, constant_terms, FallsShort, IsRefutationMet}
 use Rattle.xc_verify.specs.Judgements.{IsJudgement, IsMet, Proves}
+use Rattle.xc_verify.specs.Laws.{AcceptanceProves}
 use Rattle.xc_verify.specs.Objections.{IsMetAt, IsMetIn, IsNothing, objection_of}
 use Rattle.xc_verify.specs.Sums.{Term, IsSumOf}
 use Rattle.xc_verify.specs.declared.types.Judgement.{Judgement}
@@ -122,3 +123,10 @@ module _ (s : Constraints) (c : Certificate) (r : Multipliers) (j : Judgement) (
   refutation_accepted excludes ok kept e = subst (λ (d : Certificate). Proves s d) (sym is)
       (let contradiction = contradicts s r kept (subst (λ (m : Option Objection). IsRefutationMet s r m) (sym told ∙ ap objection_of e) h) in
       (contradiction, λ z. excludes s r z ok contradiction))
+
+-- an accepted certificate proves its claim
+pub acceptance_proves : ExcludesSolutions → AcceptanceProves
+acceptance_proves excludes s (Feasible values) ok kept h = values_solve s values ok h
+acceptance_proves excludes s (Infeasible r) ok kept h =
+    let contradiction = contradicts s r kept h in
+    (contradiction, λ z. excludes s r z ok contradiction)

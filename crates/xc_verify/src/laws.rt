@@ -1,12 +1,20 @@
 //! What follows from the definitions for all systems and certificates. The functions do nothing: code calls one where
 //! its proof needs the clauses.
-ghost use Rattle.xc_verify.specs.Laws.{HasOneJudgement};
+ghost use Rattle.xc_verify.specs.Laws.{AcceptanceProves, HasOneJudgement};
 
 use xc_frac::laws::lowest_terms;
+use xc_system::laws::contradictions_exclude;
 
 /// A certificate has one judgement.
 pub fn one_judgement()
     ensures { HasOneJudgement }
 {
     lowest_terms();
+}
+
+/// A certificate that is accepted proves what it claims of the system.
+pub fn acceptance_proves()
+    ensures { AcceptanceProves }
+{
+    contradictions_exclude();
 }

@@ -3,7 +3,7 @@ use Rattle.std.proofs.Common.{◌≡◌, ℕ, ◌+◌, ◌<◌, ◌≤◌, ◌^�
 use Rattle.std.specs.Prelude.{codes, decimal}
 use Rattle.std.specs.List.{enumerate_from}
 use Rattle.std.proofs.lemmas.Bool.{cases_lt}
-use Rattle.xc_cert.specs.Certificates.{IsLine, AreLines, AreNumbers, IsPassed, ArePassed, IsPassedText, IsCertificate, IsTextOf, opening, numbered_line, numbered_lines, certificate_lines, certificate_text, text_of}
+use Rattle.xc_cert.specs.Certificates.{IsLine, AreLines, AreNumbers, IsPassed, ArePassed, IsCertificate, IsTextOf, opening, numbered_line, numbered_lines, certificate_lines, certificate_text, text_of}
 use Rattle.xc_cert.specs.Faults.{Begin, IsFaultAt}
 use Rattle.xc_cert.specs.Laws.{OneCertificate, TextOrFault, OneFault, WrittenIsText, PassedTextsJoin}
 use Rattle.xc_cert.specs.Steps.Reading.{Gathered, nothing, Leads, ended}

@@ -6,6 +6,8 @@ pub mod laws;
 mod line;
 mod read;
 mod reader;
+#[cfg(test)]
+mod tests;
 mod write;
 
 pub use fault::CertFault;

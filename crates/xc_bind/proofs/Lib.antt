@@ -4,6 +4,7 @@ mod InOrder
 mod Judging
 mod Members
 mod OneAnswer
+mod OneSystem
 pub mod Owning
 mod PointPlaces
 mod RolesInOrder

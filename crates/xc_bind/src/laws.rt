@@ -1,8 +1,11 @@
 //! What the definitions of this crate say, in the words of arcs and points.
 //!
-//! Each function has an empty body: its contract is the law.
-ghost use Rattle.xc_bind.specs.Laws.{AreThose, GoByRole, HasOneAnswer};
+//! The functions do nothing but cite laws of the crates below: their contracts are the laws.
+ghost use Rattle.xc_bind.specs.Laws.{AreThose, GoByRole, HasOneAnswer, HasOneSystem};
 ghost use Rattle.xc_bind.specs.Solved.{SolutionsAdmit};
+
+use xc_frac::laws::lowest_terms;
+use xc_points::laws::points_are_pairs;
 
 /// Where no two points have one concept and one key, the bindings are exactly these: of each network the
 /// points of whose concepts an arc leads to a concept that has a point with the same key, by network and then
@@ -15,6 +18,14 @@ pub fn bindings_are_those()
 pub fn bindings_are_one()
     ensures { HasOneAnswer }
 {}
+
+/// A report has one system.
+pub fn system_is_one()
+    ensures { HasOneSystem }
+{
+    lowest_terms();
+    points_are_pairs();
+}
 
 /// Where the networks go by role as bytes, the bindings go by role as bytes and then by total.
 pub fn roles_ascend()

@@ -1,3 +1,4 @@
 pub mod Appended
 pub mod Examples
+pub mod FindingLines
 pub mod Words

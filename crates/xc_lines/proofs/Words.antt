@@ -6,7 +6,7 @@ use Rattle.std.proofs.lemmas.Str.{chars-encodes, encode_same, char_from_byte, le
 use Rattle.std.specs.List.{flat_map}
 use Rattle.std.specs.Str.{IsUtf8, chars}
 use Rattle.xc_lines.specs.Laws.{IsOfWord, PrintsOneWord, PrintsApart}
-use Rattle.xc_lines.specs.Lines.{is_escaped, hex_digit, printed_char}
+use Rattle.xc_lines.specs.Lines.{is_escaped, hex_digit, printed, printed_char}
 use lib.Utf8.{encode, encodes, next}
 
 -- ---- one character
@@ -81,6 +81,11 @@ pieces : (cs : List ℕ) → All IsOfWord (flat_map printed_char cs)
 pieces [] = All-nil IsOfWord
 pieces (c ∷ cs) = All-append IsOfWord (printed_char c) (flat_map printed_char cs) (piece_by c (is_escaped c) refl) (pieces cs)
 
+-- what is printed is made of bytes of words
+pub of_words : (text : List ℕ) → All IsOfWord (printed text)
+of_words [] = more 37 [] (omega arith, omega arith) (All-nil IsOfWord)
+of_words (byte ∷ bytes) = pieces (chars (byte ∷ bytes))
+
 no_pieces : (cs : List ℕ) → flat_map printed_char cs ≡ [] → cs ≡ []
 no_pieces [] e = refl
 no_pieces (c ∷ cs) e = absurd (omega (arith, piece_some c, length-append (printed_char c) (flat_map printed_char cs), ap length e))
@@ -105,8 +110,8 @@ spelled : (text : List ℕ) → IsUtf8 text → encodes (chars text) ≡ text
 spelled text u = subst (λ b. encodes (chars b) ≡ b) u.1.1 (ap encodes (chars-encodes u.0 u.1.0))
 
 pub one_word : PrintsOneWord
-one_word [] u = (λ e. let l = ap length e in omega (arith, l), more 37 [] (omega arith, omega arith) (All-nil IsOfWord))
-one_word (byte ∷ bytes) u = (λ e. let l = ap length (sym (spelled (byte ∷ bytes) u) ∙ ap encodes (no_pieces (chars (byte ∷ bytes)) e)) in omega (arith, l), pieces (chars (byte ∷ bytes)))
+one_word [] u = (λ e. let l = ap length e in omega (arith, l), of_words [])
+one_word (byte ∷ bytes) u = (λ e. let l = ap length (sym (spelled (byte ∷ bytes) u) ∙ ap encodes (no_pieces (chars (byte ∷ bytes)) e)) in omega (arith, l), of_words (byte ∷ bytes))
 
 pub apart : PrintsApart
 apart [] [] u v e = refl

@@ -1,11 +1,16 @@
 -- What follows from the definitions for all texts and reports.
-use Rattle.std.specs.Prelude.{◌≡◌, ◌≢◌, ◌<◌, ℕ, List, [], All}
+use Rattle.std.specs.Prelude.{◌≡◌, ◌≢◌, ◌<◌, ◌^◌, ℕ, List, [], length, All}
 use Rattle.std.specs.Str.{IsUtf8}
+use Rattle.xc_bind.specs.declared.types.Binding.{Binding}
+use Rattle.xc_bind.specs.declared.types.Verdict.{Verdict}
+use Rattle.xc_calc.specs.declared.arc.Network.{Network}
+use Rattle.xc_cert.specs.Certificates.{IsPassedText}
 use Rattle.xc_interval.specs.declared.mode.Mode.{Mode}
-use Rattle.xc_lines.specs.Findings.{CarryFacts}
+use Rattle.xc_lines.specs.Findings.{CarryFacts, findings}
 use Rattle.xc_lines.specs.Lines.{printed}
 use Rattle.xc_points.specs.Gathered.{ArePoints}
 use Rattle.xc_points.specs.Kept.{Gathered, AreKept}
+use Rattle.xc_points.specs.declared.types.Point.{Point}
 use Rattle.xc_report.specs.declared.reports.Fact.{Fact}
 
 -- a byte of a word: no control character and no space
@@ -23,3 +28,8 @@ PrintsApart = (a b : List ℕ) → IsUtf8 a → IsUtf8 b → printed a ≡ print
 -- the numbers in the data points of a report are those of its facts
 abbrev pub PointsCarryFacts : Type 0
 PointsCarryFacts = (mode : Mode) (facts : List Fact) (gathered : Gathered) → ArePoints mode facts gathered → AreKept gathered.points gathered.ends → CarryFacts facts gathered.points
+
+-- findings are lines that are passed over before a certificate: a certificate may stand behind them
+abbrev pub FindingsArePassed : Type 0
+FindingsArePassed = (mode : Mode) (facts : List Fact) (networks : List Network) (points : List Point) (bindings : List Binding) (verdicts : List Verdict)
+    → length bindings < 2 ^ 64 → length points < 2 ^ 64 → IsPassedText (findings mode facts networks points bindings verdicts)

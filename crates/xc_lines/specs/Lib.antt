@@ -1,3 +1,4 @@
 pub mod Findings
+pub mod Judgements
 pub mod Laws
 pub mod Lines

@@ -1,7 +1,9 @@
 //! What the definitions of this crate say, in the words of lines and reports.
 //!
-//! Each function has an empty body: its contract is the law.
-ghost use Rattle.xc_lines.specs.Laws.{PrintsOneWord, PrintsApart, PointsCarryFacts};
+//! Each function does nothing: its contract is the law.
+ghost use Rattle.xc_lines.specs.Laws.{PrintsOneWord, PrintsApart, PointsCarryFacts, FindingsArePassed};
+
+use xc_cert::laws::passed_texts_join;
 
 /// A printed text is one word of its line: spaces and line feeds stand only where a line has them.
 pub fn prints_one_word()
@@ -17,3 +19,10 @@ pub fn prints_apart()
 pub fn points_carry_facts()
     ensures { PointsCarryFacts }
 {}
+
+/// Findings are lines of which none is `certificate 1`, so that a certificate may stand behind them.
+pub fn findings_are_passed()
+    ensures { FindingsArePassed }
+{
+    passed_texts_join();
+}

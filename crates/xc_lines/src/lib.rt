@@ -2,11 +2,13 @@
 #![tactic(auto)]
 
 mod found;
+mod judgements;
 pub mod laws;
 mod lines;
 mod texts;
 
 pub use found::findings;
+pub use judgements::judgement_line;
 pub use lines::{placed_refusal_line, read_fault_line, refusal_line, usage_line};
 pub use texts::printed;
 

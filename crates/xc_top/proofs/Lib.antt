@@ -1,3 +1,4 @@
+pub mod Accepted
 pub mod Fetched
 pub mod Few
 pub mod Judging
@@ -15,6 +16,7 @@ pub mod RenamedNetworks
 pub mod RenamedPoints
 pub mod RenamedSchemas
 pub mod RenamedSums
+pub mod RenamedSystems
 pub mod RenamedTaxonomies
 pub mod RenamedVerdicts
 pub mod Renaming

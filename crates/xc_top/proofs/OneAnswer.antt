@@ -2,6 +2,7 @@
 use Rattle.std.proofs.Common.{◌≡◌, ℕ, List, [], ◌∷◌, map, Option, Some, None, Result, Ok, Err, inl, inr, refl, sym, ap, subst, ◌∙◌}
 use Rattle.std.specs.List.{zip}
 use Rattle.xc_calc.specs.Laws as calc
+use Rattle.xc_calc.specs.declared.arc.ArcKind.{ArcKind}
 use Rattle.xc_calc.specs.declared.arc.Network.{Network}
 use Rattle.xc_lists.specs.Places.{first_given}
 use Rattle.xc_elements.specs.DocumentTrees.{OneTree, TreeOrFault, OneFirstFault}
@@ -9,7 +10,6 @@ use Rattle.xc_io.specs.Shelf.{Files}
 use Rattle.xc_names.specs.Laws.{NumbersTellNames, NamesStandAtNumbers}
 use Rattle.xc_names.specs.declared.expanded.Expanded.{Expanded}
 use Rattle.xc_names.specs.declared.wanted.Wanted.{Wanted}
-use Rattle.xc_points.specs.Laws.{HasOneRange}
 use Rattle.xc_report.specs.Laws.{StatedIsRenamed, ReportIsRenamed}
 use Rattle.xc_report.specs.Opened.{Opened, opened}
 use Rattle.xc_report.specs.StatedFacts.{stated_facts}
@@ -18,22 +18,21 @@ use Rattle.xc_report.specs.declared.reports.ReportFault.{ReportFault}
 use Rattle.xc_report.specs.declared.stated.StatedFact.{StatedFact}
 use Rattle.xc_report.specs.Renamed.{renamed_stated, renamed_fact, renamed_read}
 use Rattle.xc_top.proofs.Renaming.{IsRenamed, renamed_network}
-use Rattle.xc_top.proofs.RenamedLines.{one_counted}
+use Rattle.xc_top.proofs.RenamedLines.{Judges, one_counted}
 use Rattle.xc_top.proofs.RenamedSums.{one_sum}
 use Rattle.xc_top.proofs.RenamedTaxonomies.{one_taxonomy, one_refusal, refused_or_read}
 use Rattle.xc_top.specs.Answer.{IsHeldAnswer, IsAnswer, IsCommandAnswer}
 use Rattle.xc_top.specs.Answers.{report_refusal}
-use Rattle.xc_top.specs.Checks.{check_asked, IsOpenedAnswer, IsDocumentsAnswer, IsCheckAnswer}
+use Rattle.xc_top.specs.Checks.{joint_line, over_asked, IsOpenedAnswer, IsDocumentsAnswer, IsOverFiles, IsVerifyAnswer}
 use Rattle.xc_top.specs.Documents.{first_unfetched, IsContentOf, IsDocumentOf, AreDocumentsOf}
-use Rattle.xc_top.specs.Judged.{Asked, IsCounted, IsStated, IsRead, IsFactsAnswer}
+use Rattle.xc_top.specs.Judged.{Asked, Sought, FindingsWith, JudgementOf, IsCounted, IsStated, IsRead, IsFactsAnswer}
 use Rattle.xc_top.specs.Laws.{DocumentsAreOne}
 use Rattle.xc_top.specs.Sums.{sum_asked, sum_network, named_words, unbound, IsNumberedAnswer, IsReportAnswer, IsSumAnswer}
-use Rattle.xc_top.specs.Words.{CommandWords, SumWords, CheckWords, SumOf, CheckOf, file_words}
+use Rattle.xc_top.specs.Words.{CommandWords, SumWords, CheckWords, VerifyWords, SumOf, CheckOf, VerifyOf, file_words}
 use Rattle.xc_top.specs.declared.documents.Content.{Content}
 use Rattle.xc_top.specs.declared.documents.Content.TheVariants.{Elements, Broken}
 use Rattle.xc_top.specs.declared.documents.Document.{Document}
 use Rattle.xc_top.specs.declared.status.Answer.{Answer}
-use Rattle.xc_verdict.specs.Laws.{HasOneVerdict}
 
 -- ---- documents
 
@@ -80,8 +79,7 @@ pub record Below : Type 0 where
   pub networks : calc.HasOneAnswer
   pub stated : StatedIsRenamed
   pub facts : ReportIsRenamed
-  pub range : HasOneRange
-  pub verdict : HasOneVerdict
+  pub judges : Judges
 
 module _ (below : Below) (documents_are_one : DocumentsAreOne) where
   module _ (asked : Asked) (names other_names : List Expanded) (networks other_networks : List Network) (wanted other_wanted : Wanted)
@@ -92,7 +90,7 @@ module _ (below : Below) (documents_are_one : DocumentsAreOne) where
     one_stated facts one other h k =
         let same : k.report.facts ≡ map (renamed_fact renamed.by) h.report.facts =
         below.facts renamed.by h.after k.after facts h.report k.report h.numbered k.numbered in
-        one_counted below.range below.verdict renamed.by renamed.injective asked networks h.report.facts one other h.counted
+        one_counted below.judges renamed.by renamed.injective asked networks h.report.facts one other h.counted
         (subst (λ fs. IsCounted asked (map (renamed_network renamed.by) networks) fs other) same
         (subst (λ ns. IsCounted asked ns k.report.facts other) renamed.networks_are k.counted))
 
@@ -109,30 +107,38 @@ module _ (below : Below) (documents_are_one : DocumentsAreOne) where
         one_read (stated_facts known report.facts) one other h
         (subst (λ stated. IsRead asked other_names other_networks stated other) same k)
 
-  -- ---- `check`
+  -- ---- over the documents of a taxonomy
 
-  one_opened : (check : CheckWords) (names other_names : List Expanded) (networks other_networks : List Network) (wanted other_wanted : Wanted)
-      → IsRenamed names networks wanted other_names other_networks other_wanted → (report : Result Opened ReportFault) (one other : Answer)
-      → IsOpenedAnswer check names networks wanted report one → IsOpenedAnswer check other_names other_networks other_wanted report other → one ≡ other
-  one_opened check names other_names networks other_networks wanted other_wanted renamed (Ok report) one other h k =
-      one_facts (check_asked check) names other_names networks other_networks wanted other_wanted renamed report one other h k
-  one_opened check names other_names networks other_networks wanted other_wanted renamed (Err fault) one other h k = same_some one other (report_refusal check.report fault) h k
+  module _ (asked : Asked) where
+    one_opened : (names other_names : List Expanded) (networks other_networks : List Network) (wanted other_wanted : Wanted)
+        → IsRenamed names networks wanted other_names other_networks other_wanted → (report : Result Opened ReportFault) (one other : Answer)
+        → IsOpenedAnswer asked names networks wanted report one → IsOpenedAnswer asked other_names other_networks other_wanted report other → one ≡ other
+    one_opened names other_names networks other_networks wanted other_wanted renamed (Ok report) one other h k =
+        one_facts asked names other_names networks other_networks wanted other_wanted renamed report one other h k
+    one_opened names other_names networks other_networks wanted other_wanted renamed (Err fault) one other h k = same_some one other (report_refusal asked.word fault) h k
 
-  one_over : (check : CheckWords) (report : List ℕ) (documents : List Document) (one other : Answer) → IsDocumentsAnswer check report documents one → IsDocumentsAnswer check report documents other → one ≡ other
-  one_over check report documents one other (inl h) (inl k) = one_refusal below.tell below.stand check.kind documents one other h k
-  one_over check report documents one other (inl h) (inr k) = absurd (refused_or_read below.tell below.stand check.kind documents one k.names k.networks k.wanted h k.taxonomy)
-  one_over check report documents one other (inr h) (inl k) = absurd (refused_or_read below.tell below.stand check.kind documents other h.names h.networks h.wanted k h.taxonomy)
-  one_over check report documents one other (inr h) (inr k) =
-      one_opened check h.names k.names h.networks k.networks h.wanted k.wanted
-      (one_taxonomy below.tell below.stand below.networks check.kind documents h.names h.networks h.wanted k.names k.networks k.wanted h.taxonomy k.taxonomy)
-      (opened report) one other h.answered k.answered
+    one_over : (kind : ArcKind) (report : List ℕ) (documents : List Document) (one other : Answer) → IsDocumentsAnswer kind asked report documents one → IsDocumentsAnswer kind asked report documents other → one ≡ other
+    one_over kind report documents one other (inl h) (inl k) = one_refusal below.tell below.stand kind documents one other h k
+    one_over kind report documents one other (inl h) (inr k) = absurd (refused_or_read below.tell below.stand kind documents one k.names k.networks k.wanted h k.taxonomy)
+    one_over kind report documents one other (inr h) (inl k) = absurd (refused_or_read below.tell below.stand kind documents other h.names h.networks h.wanted k h.taxonomy)
+    one_over kind report documents one other (inr h) (inr k) =
+        one_opened h.names k.names h.networks k.networks h.wanted k.wanted
+        (one_taxonomy below.tell below.stand below.networks kind documents h.names h.networks h.wanted k.names k.networks k.wanted h.taxonomy k.taxonomy)
+        (opened report) one other h.answered k.answered
 
-  one_check : (check : CheckWords) (files : Files) (one other : Answer) → IsCheckAnswer check files one → IsCheckAnswer check files other → one ≡ other
-  one_check check files one other h k =
+  one_over_files : (check : CheckWords) (sought : Sought) (files : Files) (one other : Answer) → IsOverFiles check sought files one → IsOverFiles check sought files other → one ≡ other
+  one_over_files check sought files one other h k =
       let bytes : h.bytes ≡ k.bytes = same_bytes h.bytes k.bytes (files check.report) h.held k.held in
       let documents : h.documents ≡ k.documents = documents_are_one files check.documents h.documents k.documents h.read k.read in
-      one_over check k.bytes k.documents one other
-      (subst (λ ds. IsDocumentsAnswer check k.bytes ds one) documents (subst (λ bs. IsDocumentsAnswer check bs h.documents one) bytes h.answered)) k.answered
+      let asked = over_asked check sought in
+      one_over asked check.kind k.bytes k.documents one other
+      (subst (λ ds. IsDocumentsAnswer check.kind asked k.bytes ds one) documents (subst (λ bs. IsDocumentsAnswer check.kind asked bs h.documents one) bytes h.answered)) k.answered
+
+  one_verified : (verify : VerifyWords) (files : Files) (one other : Answer) → IsVerifyAnswer verify files one → IsVerifyAnswer verify files other → one ≡ other
+  one_verified verify files one other h k =
+      let bytes : h.0 ≡ k.0 = same_bytes h.0 k.0 (files verify.certificate) h.1 k.1 in
+      one_over_files verify.over (JudgementOf verify.certificate k.0) files one other
+      (subst (λ bs. IsOverFiles verify.over (JudgementOf verify.certificate bs) files one) bytes h.2) k.2
 
   -- ---- `sum`
 
@@ -158,7 +164,8 @@ module _ (below : Below) (documents_are_one : DocumentsAreOne) where
 
   one_held : (command : CommandWords) (files : Files) (one other : Answer) → IsHeldAnswer command files one → IsHeldAnswer command files other → one ≡ other
   one_held (SumOf sum) files one other h k = one_summed sum files one other h k
-  one_held (CheckOf check) files one other h k = one_check check files one other h k
+  one_held (CheckOf check) files one other h k = one_over_files check (FindingsWith joint_line) files one other h k
+  one_held (VerifyOf verify) files one other h k = one_verified verify files one other h k
 
   one_command : (command : CommandWords) (files : Files) (one other : Answer) → IsCommandAnswer command files one → IsCommandAnswer command files other → one ≡ other
   one_command command files one other (inl h) (inl k) = same_some one other (first_unfetched files (file_words command)) h k

@@ -13,17 +13,17 @@ use Rattle.xc_interval.specs.declared.mode.Mode.{Mode}
 use Rattle.xc_calc.specs.Networks.{role_of}
 use Rattle.xc_interval.specs.Ranges.{is_empty_range}
 use Rattle.xc_lines.specs.Findings.{first_id, first_id_at, counts_line, binding_line, empty_point_line, line_of, binding_lines, empty_point_lines, findings}
-use Rattle.xc_points.specs.Laws.{HasOneRange}
 use Rattle.xc_points.specs.declared.types.Point.{Point}
 use Rattle.xc_report.specs.declared.reports.Fact.{Fact}
 use Rattle.xc_lists.proofs.ListsOfImages.{any_changed, filter-map, behind_number, enumerate_from-map}
 use Rattle.xc_top.proofs.RenamedBindings.{bindings_renamed}
 use Rattle.xc_top.proofs.RenamedPoints.{points_renamed}
+use Rattle.xc_top.proofs.RenamedSystems.{Certifies, fact_id_renamed, same_certified}
 use Rattle.xc_top.proofs.RenamedVerdicts.{one_verdicts}
 use Rattle.xc_report.specs.Renamed.{renamed_fact}
 use Rattle.xc_top.proofs.Renaming.{IsInjective, renamed_network, renamed_point}
 use Rattle.xc_top.specs.Answers.{make_answer, refused}
-use Rattle.xc_top.specs.Judged.{Asked, is_inconsistent, is_too_wide, is_empty_point, status_of, AreVerdicts, IsFindings, are_too_many, IsCounted}
+use Rattle.xc_top.specs.Judged.{Asked, Sought, FindingsWith, JudgementOf, is_inconsistent, is_too_wide, is_empty_point, status_of, AreVerdicts, IsFindings, IsSought, are_too_many, IsCounted}
 use Rattle.xc_top.specs.declared.status.Answer.{Answer}
 use Rattle.xc_top.specs.declared.status.Status.TheVariants.{Sound, Findings, TooWide}
 use Rattle.xc_verdict.specs.Laws.{HasOneVerdict}
@@ -43,19 +43,12 @@ module _ (f : ℕ → ℕ) where
       by (Some network) = refl
 
   module _ (facts : List Fact) where
-    id_renamed : (n : ℕ) → option_map_or (λ (fact : Fact). fact.id) (slice_get (map (renamed_fact f) facts) n) [] ≡ option_map_or (λ (fact : Fact). fact.id) (slice_get facts n) []
-    id_renamed n = ap (λ o. option_map_or (λ (fact : Fact). fact.id) o []) (slice_get-map (renamed_fact f) facts n) ∙ by (slice_get facts n)
-      where
-        by : (o : Option Fact) → option_map_or (λ fact. fact.id) (option_map (renamed_fact f) o) [] ≡ option_map_or (λ fact. fact.id) o []
-        by None = refl
-        by (Some fact) = refl
-
     first_id_renamed : (point : Point) → first_id (map (renamed_fact f) facts) (renamed_point f point) ≡ first_id facts point
     first_id_renamed point = by (slice_get point.facts 0)
       where
         by : (o : Option ℕ) → option_map_or (λ (fact : Fact). fact.id) (option_and_then (λ n. slice_get (map (renamed_fact f) facts) n) o) [] ≡ option_map_or (λ (fact : Fact). fact.id) (option_and_then (λ n. slice_get facts n) o) []
         by None = refl
-        by (Some n) = id_renamed n
+        by (Some n) = fact_id_renamed f facts n
 
     first_id_at_renamed : (points : List Point) (k : ℕ) → first_id_at (map (renamed_fact f) facts) (map (renamed_point f) points) k ≡ first_id_at facts points k
     first_id_at_renamed points k = ap (λ o. option_map_or (λ point. first_id (map (renamed_fact f) facts) point) o []) (slice_get-map (renamed_point f) points k) ∙ by (slice_get points k)
@@ -99,31 +92,41 @@ module _ (f : ℕ → ℕ) where
 
 -- ---- one answer
 
-module _ (one_range : HasOneRange) (one_verdict : HasOneVerdict) (f : ℕ → ℕ) (injective : IsInjective f) (asked : Asked) (networks : List Network) (facts : List Fact) where
-  same_findings : (one other : Answer) → IsFindings asked networks facts one → IsFindings asked (map (renamed_network f) networks) (map (renamed_fact f) facts) other → one ≡ other
-  same_findings one other h k =
-      let points = points_renamed one_range f injective asked.mode facts h.points k.points h.points_are k.points_are in
+-- the laws by which facts have one answer
+pub record Judges : Type 0 where
+  pub verdict : HasOneVerdict
+  pub certifies : Certifies
+
+module _ (laws : Judges) (f : ℕ → ℕ) (injective : IsInjective f) (mode : Mode) (networks : List Network) (facts : List Fact) where
+  same_findings : (close : List ℕ) (one other : Answer) → IsFindings mode close networks facts one → IsFindings mode close (map (renamed_network f) networks) (map (renamed_fact f) facts) other → one ≡ other
+  same_findings close one other h k =
+      let points = points_renamed laws.certifies.range f injective mode facts h.points k.points h.points_are k.points_are in
       let bindings = ap (λ ps. bindings_of (map (renamed_network f) networks) ps) points ∙ bindings_renamed f injective networks h.points.points in
-      let verdicts_are : AreVerdicts asked.mode (map (renamed_fact f) facts) (map (renamed_point f) h.points.points) (bindings_of networks h.points.points) k.verdicts =
-      subst (λ bs. AreVerdicts asked.mode (map (renamed_fact f) facts) (map (renamed_point f) h.points.points) bs k.verdicts) bindings
-      (subst (λ ps. AreVerdicts asked.mode (map (renamed_fact f) facts) ps (bindings_of (map (renamed_network f) networks) k.points.points) k.verdicts) points k.verdicts_are) in
-      let verdicts = one_verdicts one_verdict f asked.mode facts h.points.points (bindings_of networks h.points.points) h.verdicts k.verdicts h.verdicts_are verdicts_are in
+      let verdicts_are : AreVerdicts mode (map (renamed_fact f) facts) (map (renamed_point f) h.points.points) (bindings_of networks h.points.points) k.verdicts =
+      subst (λ bs. AreVerdicts mode (map (renamed_fact f) facts) (map (renamed_point f) h.points.points) bs k.verdicts) bindings
+      (subst (λ ps. AreVerdicts mode (map (renamed_fact f) facts) ps (bindings_of (map (renamed_network f) networks) k.points.points) k.verdicts) points k.verdicts_are) in
+      let verdicts = one_verdicts laws.verdict f mode facts h.points.points (bindings_of networks h.points.points) h.verdicts k.verdicts h.verdicts_are verdicts_are in
       let status : status_of k.points.points k.verdicts ≡ status_of h.points.points h.verdicts =
       (λ i. status_of (points i) (sym verdicts i)) ∙ status_renamed f h.points.points h.verdicts in
-      let lines = (λ i. findings asked.mode (map (renamed_fact f) facts) (map (renamed_network f) networks) (points i) (bindings i) (sym verdicts i))
-      ∙ findings_renamed f asked.mode facts networks h.points.points (bindings_of networks h.points.points) h.verdicts in
-      h.is ∙ sym (k.is ∙ ap₂ (λ status lines. make_answer status (lines ++ asked.close)) status lines)
+      let lines = (λ i. findings mode (map (renamed_fact f) facts) (map (renamed_network f) networks) (points i) (bindings i) (sym verdicts i))
+      ∙ findings_renamed f mode facts networks h.points.points (bindings_of networks h.points.points) h.verdicts in
+      h.is ∙ sym (k.is ∙ ap₂ (λ status lines. make_answer status (lines ++ close)) status lines)
+
+  same_sought : (sought : Sought) (one other : Answer) → IsSought mode sought networks facts one → IsSought mode sought (map (renamed_network f) networks) (map (renamed_fact f) facts) other → one ≡ other
+  same_sought (FindingsWith close) one other h k = same_findings close one other h k
+  same_sought (JudgementOf word bytes) one other h k = same_certified laws.certifies f injective mode word bytes networks facts one other h k
 
 -- facts have one answer, whatever the numbers of names
-pub one_counted : HasOneRange → HasOneVerdict → (f : ℕ → ℕ) → IsInjective f → (asked : Asked) (networks : List Network) (facts : List Fact) (one other : Answer)
+pub one_counted : Judges → (f : ℕ → ℕ) → IsInjective f → (asked : Asked) (networks : List Network) (facts : List Fact) (one other : Answer)
     → IsCounted asked networks facts one → IsCounted asked (map (renamed_network f) networks) (map (renamed_fact f) facts) other → one ≡ other
-one_counted one_range one_verdict f injective asked networks facts one other h k =
+one_counted laws f injective asked networks facts one other h k =
     by (are_too_many (length facts) (length networks)) h
-    (subst (λ many. MatchBool many (other ≡ refused asked.word (codes "xc:tooMany")) (IsFindings asked (map (renamed_network f) networks) (map (renamed_fact f) facts) other)) many k)
+    (subst (λ many. MatchBool many (other ≡ refused asked.word (codes "xc:tooMany")) (IsSought asked.mode asked.sought (map (renamed_network f) networks) (map (renamed_fact f) facts) other)) many k)
   where
     many : are_too_many (length (map (renamed_fact f) facts)) (length (map (renamed_network f) networks)) ≡ are_too_many (length facts) (length networks)
     many = ap₂ (λ m n. are_too_many m n) (length-map facts (renamed_fact f)) (length-map networks (renamed_network f))
 
-    by : (b : Bool) → MatchBool b (one ≡ refused asked.word (codes "xc:tooMany")) (IsFindings asked networks facts one) → MatchBool b (other ≡ refused asked.word (codes "xc:tooMany")) (IsFindings asked (map (renamed_network f) networks) (map (renamed_fact f) facts) other) → one ≡ other
+    by : (b : Bool) → MatchBool b (one ≡ refused asked.word (codes "xc:tooMany")) (IsSought asked.mode asked.sought networks facts one)
+        → MatchBool b (other ≡ refused asked.word (codes "xc:tooMany")) (IsSought asked.mode asked.sought (map (renamed_network f) networks) (map (renamed_fact f) facts) other) → one ≡ other
     by true h k = h ∙ sym k
-    by false h k = same_findings one_range one_verdict f injective asked networks facts one other h k
+    by false h k = same_sought laws f injective asked.mode networks facts asked.sought one other h k

@@ -3,10 +3,10 @@ use Rattle.std.specs.Prelude.{◌≡◌, ◌⊎◌, ℕ, List, Option, Some, Non
 use Rattle.xc_io.specs.Shelf.{Files}
 use Rattle.xc_lines.specs.Lines.{usage_line}
 use Rattle.xc_top.specs.Answers.{make_answer}
-use Rattle.xc_top.specs.Checks.{IsCheckAnswer}
+use Rattle.xc_top.specs.Checks.{IsCheckAnswer, IsVerifyAnswer}
 use Rattle.xc_top.specs.Documents.{first_unfetched}
 use Rattle.xc_top.specs.Sums.{IsSumAnswer}
-use Rattle.xc_top.specs.Words.{CommandWords, SumOf, CheckOf, file_words, words_of}
+use Rattle.xc_top.specs.Words.{CommandWords, SumOf, CheckOf, VerifyOf, file_words, words_of}
 use Rattle.xc_top.specs.declared.status.Answer.{Answer}
 use Rattle.xc_top.specs.declared.status.Status.TheVariants.{Usage}
 
@@ -14,6 +14,7 @@ use Rattle.xc_top.specs.declared.status.Status.TheVariants.{Usage}
 abbrev pub IsHeldAnswer : CommandWords → Files → Answer → Type 0
 IsHeldAnswer (SumOf sum) files answer = IsSumAnswer sum files answer
 IsHeldAnswer (CheckOf check) files answer = IsCheckAnswer check files answer
+IsHeldAnswer (VerifyOf verify) files answer = IsVerifyAnswer verify files answer
 
 -- all files are held and none is too long, and this is answered of them
 pub record IsFetchedAnswer (command : CommandWords) (files : Files) (answer : Answer) : Type 0 where

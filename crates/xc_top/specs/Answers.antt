@@ -2,6 +2,8 @@
 use Rattle.std.specs.Prelude.{ℕ, List, Option, Some, None, decimal, option_map}
 use Rattle.xc_calc.specs.Codes as link
 use Rattle.xc_calc.specs.declared.fault.LinkFault.{LinkFault}
+use Rattle.xc_cert.specs.Codes as certificate
+use Rattle.xc_cert.specs.declared.fault.CertFault.{CertFault}
 use Rattle.xc_concepts.specs.Codes as schema
 use Rattle.xc_concepts.specs.declared.fault.SchemaFault.{SchemaFault}
 use Rattle.xc_elements.specs.Codes as tree
@@ -62,3 +64,7 @@ report_refusal word fault = refusal word (report.code_of fault) (report.place_of
 -- what is answered of a fault of a name that the report is asked for, with the word in which it stands
 abbrev pub name_refusal : List ℕ → NameFault → List ℕ → Option Answer
 name_refusal word fault name = refusal word (names.code_of fault) (Some name)
+
+-- what is answered of a text that is no certificate, by the line that fits nowhere
+abbrev pub certificate_refusal : List ℕ → CertFault → Option Answer
+certificate_refusal word fault = numbered_refusal word (certificate.code_of fault) (certificate.place_of fault)

@@ -1,4 +1,5 @@
--- What is answered of the facts of a report: their fault, or the findings of their data points, bindings and verdicts.
+-- What is answered of the facts of a report: their fault; or the findings of their data points, bindings and verdicts; or the judgement of a
+-- certificate.
 use Rattle.std.specs.Prelude.{◌≡◌, ℕ, ◌+◌, ◌*◌, ◌^◌, ◌++◌, List, [], ◌∷◌, length, Bool, true, false, not, ◌||◌, nat_lt, Result, Ok, Err, Some, MatchBool, codes, if◌then◌else◌}
 use Rattle.std.specs.List.{list_any}
 use Rattle.xc_bind.specs.Bindings.{bindings_of}
@@ -24,16 +25,22 @@ use Rattle.xc_report.specs.declared.reports.Report.{Report}
 use Rattle.xc_report.specs.declared.reports.ReportFault.{ReportFault}
 use Rattle.xc_report.specs.declared.stated.StatedFact.{StatedFact}
 use Rattle.xc_top.specs.Answers.{make_answer, refused, report_refusal}
+use Rattle.xc_top.specs.Certified.{IsCertified}
 use Rattle.xc_top.specs.declared.status.Answer.{Answer}
 use Rattle.xc_top.specs.declared.status.Status.{Status}
 use Rattle.xc_top.specs.declared.status.Status.TheVariants.{Sound, Findings, TooWide}
 use Rattle.xc_verdict.specs.Verdicts.{IsVerdict}
 
--- what is asked of a report: its word, the mode, and the lines that stand behind the findings
+-- what is sought in facts: their findings, with these lines behind them; or the judgement of a certificate, by the word of its file and its bytes
+pub data Sought : Type 0 where
+  FindingsWith : List ℕ → Sought
+  JudgementOf : List ℕ → List ℕ → Sought
+
+-- what is asked of a report: its word, the mode, and what is sought in its facts
 pub record Asked : Type 0 where
   pub word : List ℕ
   pub mode : Mode
-  pub close : List ℕ
+  pub sought : Sought
 
 abbrev pub is_inconsistent : Verdict → Bool
 is_inconsistent verdict.Consistent = false
@@ -65,13 +72,18 @@ AreVerdicts mode facts points [] (v ∷ verdicts) = ⊥
 AreVerdicts mode facts points (binding ∷ bindings) [] = ⊥
 AreVerdicts mode facts points (binding ∷ bindings) (v ∷ verdicts) = IsVerdict mode facts points binding v × AreVerdicts mode facts points bindings verdicts
 
--- the findings of facts: their data points, the bindings of the networks, and a verdict for each
-pub record IsFindings (asked : Asked) (networks : List Network) (facts : List Fact) (answer : Answer) : Type 0 where
+-- the findings of facts, with these lines behind them: their data points, the bindings of the networks, and a verdict for each
+pub record IsFindings (mode : Mode) (close : List ℕ) (networks : List Network) (facts : List Fact) (answer : Answer) : Type 0 where
   pub points : Gathered
-  pub points_are : ArePoints asked.mode facts points
+  pub points_are : ArePoints mode facts points
   pub verdicts : List Verdict
-  pub verdicts_are : AreVerdicts asked.mode facts points.points (bindings_of networks points.points) verdicts
-  pub is : answer ≡ make_answer (status_of points.points verdicts) (findings asked.mode facts networks points.points (bindings_of networks points.points) verdicts ++ asked.close)
+  pub verdicts_are : AreVerdicts mode facts points.points (bindings_of networks points.points) verdicts
+  pub is : answer ≡ make_answer (status_of points.points verdicts) (findings mode facts networks points.points (bindings_of networks points.points) verdicts ++ close)
+
+-- what is answered of facts that are not too many
+abbrev pub IsSought : Mode → Sought → List Network → List Fact → Answer → Type 0
+IsSought mode (FindingsWith close) networks facts answer = IsFindings mode close networks facts answer
+IsSought mode (JudgementOf word bytes) networks facts answer = IsCertified mode word bytes networks facts answer
 
 -- the number of facts, times one more than the number of networks, is too great
 abbrev pub are_too_many : ℕ → ℕ → Bool
@@ -79,7 +91,7 @@ are_too_many facts networks = not (nat_lt (facts * (networks + 1)) (2 ^ 31))
 
 -- what is answered of facts
 abbrev pub IsCounted : Asked → List Network → List Fact → Answer → Type 0
-IsCounted asked networks facts answer = MatchBool (are_too_many (length facts) (length networks)) (answer ≡ refused asked.word (codes "xc:tooMany")) (IsFindings asked networks facts answer)
+IsCounted asked networks facts answer = MatchBool (are_too_many (length facts) (length networks)) (answer ≡ refused asked.word (codes "xc:tooMany")) (IsSought asked.mode asked.sought networks facts answer)
 
 -- what is answered of stated facts, whatever the numbers of further names
 pub record IsStated (asked : Asked) (names : List Expanded) (networks : List Network) (facts : List StatedFact) (answer : Answer) : Type 0 where

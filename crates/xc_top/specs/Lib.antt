@@ -1,9 +1,11 @@
 pub mod Answer
 pub mod Answers
+pub mod Certified
 pub mod Checks
 pub mod Documents
 pub mod Judged
 pub mod Laws
+pub mod Proven
 pub mod Run
 pub mod Status
 pub mod Steps

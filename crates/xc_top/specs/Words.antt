@@ -23,10 +23,16 @@ pub record CheckWords : Type 0 where
   pub report : List ℕ
   pub documents : List (List ℕ)
 
+-- what the words of `verify` name: a certificate, and what it is judged over
+pub record VerifyWords : Type 0 where
+  pub certificate : List ℕ
+  pub over : CheckWords
+
 -- what accepted words ask for
 pub data CommandWords : Type 0 where
   SumOf : SumWords → CommandWords
   CheckOf : CheckWords → CommandWords
+  VerifyOf : VerifyWords → CommandWords
 
 -- a word that names a file: not empty, and no `-` at its head
 abbrev pub is_file_word : List ℕ → Bool
@@ -87,10 +93,26 @@ abbrev pub check_of_kind : ArcKind → List (List ℕ) → Option CheckWords
 check_of_kind kind (mode ∷ report ∷ documents) = if is_file_word report && are_file_words documents then option_map (make_check kind report documents) (mode_of mode) else None
 check_of_kind kind _ = None
 
--- what the words behind `check` name: `--old-arcs` stands only first
+-- which arcs count, and the words behind the one that chooses them: `--old-arcs` stands only first
+abbrev pub arcs_chosen : List (List ℕ) → ArcKind × List (List ℕ)
+arcs_chosen [] = (New, [])
+arcs_chosen (word ∷ words) = if bytes_eq word (codes "--old-arcs") then (Old, words) else (New, word ∷ words)
+
+-- what the words behind `check` name
 abbrev pub check_of : List (List ℕ) → Option CheckWords
-check_of [] = None
-check_of (word ∷ words) = if bytes_eq word (codes "--old-arcs") then check_of_kind Old words else check_of_kind New (word ∷ words)
+check_of words = check_of_kind (arcs_chosen words).0 (arcs_chosen words).1
+
+abbrev pub make_verify : List ℕ → CheckWords → VerifyWords
+make_verify certificate over = record { certificate = certificate; over = over }
+
+-- what the words behind `verify` name, without the one that chooses the arcs: those of `check`, with the certificate behind the mode
+abbrev pub verify_of_kind : ArcKind → List (List ℕ) → Option VerifyWords
+verify_of_kind kind (mode ∷ certificate ∷ words) = if is_file_word certificate then option_map (make_verify certificate) (check_of_kind kind (mode ∷ words)) else None
+verify_of_kind kind _ = None
+
+-- what the words behind `verify` name
+abbrev pub verify_of : List (List ℕ) → Option VerifyWords
+verify_of words = verify_of_kind (arcs_chosen words).0 (arcs_chosen words).1
 
 -- what these words ask for, where they are accepted
 abbrev pub words_of : List (List ℕ) → Option CommandWords
@@ -98,12 +120,14 @@ words_of [] = None
 words_of (command ∷ words) =
     if bytes_eq command (codes "sum") then option_map SumOf (sum_of words)
     else if bytes_eq command (codes "check") then option_map CheckOf (check_of words)
+    else if bytes_eq command (codes "verify") then option_map VerifyOf (verify_of words)
     else None
 
--- the files that are read, in the order in which they are fetched: the report, and then the documents
+-- the files that are read, in the order in which they are fetched: the certificate, the report, and then the documents
 abbrev pub file_words : CommandWords → List (List ℕ)
 file_words (SumOf sum) = sum.report ∷ []
 file_words (CheckOf check) = check.report ∷ check.documents
+file_words (VerifyOf verify) = verify.certificate ∷ verify.over.report ∷ verify.over.documents
 
 -- the files that words name; words that are not accepted name none
 abbrev pub files_named : Option CommandWords → List (List ℕ)

@@ -1,15 +1,19 @@
 // What a command answers.
 ghost use Rattle.std.specs.Prelude.{◌≡◌, length, IfOk};
 ghost use Rattle.xc_top.specs.Steps.Stops.{Answers, IsAnswerIn, IsEnding};
-ghost use Rattle.xc_top.specs.Steps.Named.{named, named_sum, named_check};
+ghost use Rattle.xc_top.specs.Steps.Named.{named, named_sum, named_check, named_verify};
 ghost use Rattle.xc_top.specs.Steps.Fetches.{IsOver, Leaves};
-ghost use Rattle.xc_top.specs.Words.{SumOf, CheckOf, file_words};
+ghost use Rattle.xc_top.specs.Checks.{joint_line};
+ghost use Rattle.xc_top.specs.Judged.{FindingsWith};
+ghost use Rattle.xc_top.specs.Steps.Views.{sought};
+ghost use Rattle.xc_top.specs.Words.{SumOf, CheckOf, VerifyOf, file_words};
 
 use crate::check::answer_documents;
 use crate::documents::{fetch, fetch_documents};
+use crate::judged::Goal;
 use crate::status::{Answer, Stop};
 use crate::sum::answer_report;
-use crate::words::{Check, Command, Sum};
+use crate::words::{Check, Command, Sum, Verify};
 use std::alloc::Global;
 use xc_io::Shelf;
 use xc_lists::Memory;
@@ -45,6 +49,7 @@ fn answer_of<S: Shelf>(alloc: Global, command: &Command<'_>, shelf: &mut S) -> R
     match command {
         Command::Sum(sum) => answer_sum(alloc, sum, shelf),
         Command::Check(check) => answer_check(alloc, check, shelf),
+        Command::Verify(verify) => answer_verify(alloc, verify, shelf),
     }
 }
 
@@ -62,5 +67,28 @@ fn answer_check<S: Shelf>(alloc: Global, check: &Check<'_>, shelf: &mut S) -> Re
 {
     let report = fetch(alloc, check.report, shelf)?;
     let documents = fetch_documents(alloc, check.documents, shelf)?;
-    answer_documents(alloc, check, &report, documents)
+    answer_documents(alloc, check, findings_sought(), &report, documents)
+}
+
+// The findings, with the line of what is not asked yet.
+fn findings_sought() -> Goal<'static>
+    ensures { sought result ≡ FindingsWith joint_line }
+{
+    Goal::Findings("joint not asked\n")
+}
+
+fn answer_verify<S: Shelf>(
+    alloc: Global,
+    verify: &Verify<'_>,
+    shelf: &mut S,
+) -> Result<Answer, Stop>
+    ensures answer { Answers result (λ answer. IsOver S.held S.steady S.faults shelf.old shelf.new (VerifyOf (named_verify verify.now)) answer) }
+    ensures left { Leaves S.held S.steady S.faults S.fetches shelf.old shelf.new (length (file_words (VerifyOf (named_verify verify.now)))) }
+{
+    let over = &verify.over;
+    let certificate = fetch(alloc, verify.certificate, shelf)?;
+    let report = fetch(alloc, over.report, shelf)?;
+    let documents = fetch_documents(alloc, over.documents, shelf)?;
+    let goal = Goal::Judgement(verify.certificate, &certificate);
+    answer_documents(alloc, over, goal, &report, documents)
 }

@@ -1,14 +1,14 @@
-// What `check` answers.
+// What is answered of a report over the documents of a taxonomy.
 ghost use Rattle.std.specs.Prelude.{◌≡◌, IfOk};
 ghost use Rattle.xc_report.specs.Opened.{opened};
 ghost use Rattle.xc_top.specs.Steps.Stops.{Answers, IfStopped, IsSettled};
-ghost use Rattle.xc_top.specs.Checks.{IsDocumentsAnswer, IsOpenedAnswer, check_asked};
+ghost use Rattle.xc_top.specs.Checks.{IsDocumentsAnswer, IsOpenedAnswer, over_asked};
 ghost use Rattle.xc_top.specs.Steps.Named.{named_check};
 ghost use Rattle.xc_top.specs.Taxonomies.{IsTaxonomyOf, IsTaxonomyRefusal};
-ghost use Rattle.xc_top.specs.Steps.Views.{asked};
+ghost use Rattle.xc_top.specs.Steps.Views.{sought};
 
 use crate::documents::Document;
-use crate::judged::{Question, answer_facts};
+use crate::judged::{Goal, Question, answer_facts};
 use crate::refusals::report_refusal;
 use crate::status::{Answer, Stop};
 use crate::taxonomy::{Taxonomy, taxonomy_of};
@@ -20,14 +20,15 @@ use xc_report::open_report;
 pub fn answer_documents(
     alloc: Global,
     check: &Check<'_>,
+    goal: Goal<'_>,
     report: &[u8],
     documents: Vec<Document>,
 ) -> Result<Answer, Stop>
-    ensures answer { Answers result (λ answer. IsDocumentsAnswer (named_check check.now) report.now documents.items answer) }
+    ensures answer { Answers result (λ answer. IsDocumentsAnswer check.now.kind (over_asked (named_check check.now) (sought goal.entry)) report.now documents.items answer) }
     ensures settles { Answers result (λ answer. IsSettled answer.status) }
 {
     let taxonomy = taxonomy_in(alloc, check, documents)?;
-    answer_over(alloc, check, report, taxonomy)
+    answer_over(alloc, check, goal, report, taxonomy)
 }
 
 // What these documents say together.
@@ -43,14 +44,19 @@ fn taxonomy_in(alloc: Global, check: &Check<'_>, documents: Vec<Document>) -> Re
 fn answer_over(
     alloc: Global,
     check: &Check<'_>,
+    goal: Goal<'_>,
     report: &[u8],
     taxonomy: Taxonomy,
 ) -> Result<Answer, Stop>
-    ensures answer { Answers result (λ answer. IsOpenedAnswer (named_check check.now) taxonomy.names taxonomy.networks.items taxonomy.wanted (opened report.now) answer) }
+    ensures answer { Answers result (λ answer. IsOpenedAnswer (over_asked (named_check check.now) (sought goal.entry)) taxonomy.names taxonomy.networks.items taxonomy.wanted (opened report.now) answer) }
     ensures settles { Answers result (λ answer. IsSettled answer.status) }
 {
     let mut taxonomy = taxonomy;
-    let question = question_of(check);
+    let question = Question {
+        report: check.report,
+        mode: check.mode,
+        goal,
+    };
     match open_report(alloc, report) {
         Ok(draft) => answer_facts(
             alloc,
@@ -61,15 +67,5 @@ fn answer_over(
             &taxonomy.wanted,
         ),
         Err(fault) => Err(report_refusal(alloc, check.report, &fault)),
-    }
-}
-
-fn question_of<'a>(check: &Check<'a>) -> Question<'a>
-    ensures { asked result ≡ check_asked (named_check check.now) }
-{
-    Question {
-        report: check.report,
-        mode: check.mode,
-        close: "joint not asked\n",
     }
 }

@@ -5,6 +5,7 @@ ghost use Rattle.xc_top.specs.Steps.Stops.{Answers, IsSettled};
 ghost use Rattle.xc_top.specs.Judged.{IsFactsAnswer, IsCounted, IsFindings, are_too_many};
 ghost use Rattle.xc_top.specs.Steps.Views.{asked};
 
+use crate::certified::answer_certificate;
 use crate::refusals::{refused, report_refusal};
 use crate::status::{Answer, Stop};
 use crate::verdicts::{status_of, verdicts_of};
@@ -26,11 +27,19 @@ pub struct Question<'a> {
     pub report: &'a str,
     /// How its values were made.
     pub mode: Mode,
-    /// The lines behind the findings.
-    pub close: &'a str,
+    pub goal: Goal<'a>,
 }
 
-/// The findings of the facts of an opened report, or their fault.
+/// What is sought in the facts of a report.
+#[derive(Clone, Copy)]
+pub enum Goal<'a> {
+    /// Its findings, with these lines behind them.
+    Findings(&'a str),
+    /// The judgement of a certificate, by the word of its file and its bytes.
+    Judgement(&'a str, &'a [u8]),
+}
+
+/// What is sought in the facts of an opened report, or their fault.
 pub fn answer_facts(
     alloc: Global,
     question: &Question<'_>,
@@ -48,7 +57,7 @@ pub fn answer_facts(
     }
 }
 
-// The findings of a report, where its facts are not too many for the networks.
+// What is sought in a report, where its facts are not too many for the networks.
 fn answer_report(
     alloc: Global,
     question: &Question<'_>,
@@ -61,7 +70,14 @@ fn answer_report(
     if are_too_many(report.facts.as_slice().len(), networks.len()) {
         return Err(refused(alloc, question.report, "xc:tooMany"));
     }
-    Ok(answer_findings(alloc, question, report, networks)?)
+    match question.goal {
+        Goal::Findings(close) => {
+            Ok(answer_findings(alloc, question.mode, close, report, networks)?)
+        }
+        Goal::Judgement(word, bytes) => {
+            answer_certificate(alloc, question.mode, word, bytes, report, networks)
+        }
+    }
 }
 
 // Whether the number of facts, times one more than the number of networks, is too great.
@@ -71,33 +87,26 @@ fn are_too_many(facts: usize, networks: usize) -> bool
     (facts as u128) * (networks as u128 + 1) >= 2_147_483_648
 }
 
-// The findings of a report.
+// The findings of a report, with these lines behind them.
 fn answer_findings(
     alloc: Global,
-    question: &Question<'_>,
+    mode: Mode,
+    close: &str,
     report: &Report,
     networks: &[Network],
 ) -> Result<Answer, Memory>
     requires { are_too_many (length report.now.facts) (length networks.now) ≡ false }
-    ensures answer { IfOk result (λ answer. IsFindings (asked question.now) networks.now report.now.facts answer) }
+    ensures answer { IfOk result (λ answer. IsFindings mode close.now networks.now report.now.facts answer) }
     ensures settles { IfOk result (λ answer. IsSettled answer.status) }
 {
     // The numbers in the points are those of the report's facts.
     points_carry_facts();
-    let points = points(alloc, report, question.mode)?;
+    let points = points(alloc, report, mode)?;
     let list = points.as_slice();
     let bindings = bindings(alloc, networks, &points)?;
     let verdicts = verdicts_of(alloc, &bindings, &points)?;
-    let mut text = findings(
-        alloc,
-        report,
-        &points,
-        networks,
-        &bindings,
-        &verdicts,
-        question.mode,
-    )?;
-    text.extend_from_slice(question.close.as_bytes())?;
+    let mut text = findings(alloc, report, &points, networks, &bindings, &verdicts, mode)?;
+    text.extend_from_slice(close.as_bytes())?;
     Ok(Answer {
         status: status_of(list, &verdicts),
         text: Items::of(text),

@@ -1,14 +1,17 @@
 //! What the definitions of this crate say.
 //!
-//! The contract of each function is the law; its body cites the laws of documents, networks, reports, points and verdicts.
+//! The contract of each function is the law; its body cites the laws of the crates below.
 ghost use Rattle.xc_top.specs.Laws.{AnswersAreOne, DocumentsAreOne};
 
+use xc_bind::laws::system_is_one;
 use xc_calc::laws::networks_are_one;
+use xc_cert::laws::{one_certificate, one_fault, text_or_fault};
 use xc_elements::laws::{one_first_fault, one_tree, tree_or_fault};
 use xc_names::laws::{names_stand_at_numbers, numbers_tell_names};
-use xc_points::laws::one_range;
+use xc_points::laws::{one_list_of_ends, one_range};
 use xc_report::laws::numbers_are_free;
 use xc_verdict::laws::one_verdict;
+use xc_verify::laws::one_judgement;
 
 /// The files of a taxonomy hold one list of documents, with their trees or first faults.
 pub fn documents_are_one()
@@ -30,5 +33,11 @@ pub fn answers_are_one()
     networks_are_one();
     numbers_are_free();
     one_range();
+    one_list_of_ends();
     one_verdict();
+    system_is_one();
+    one_certificate();
+    text_or_fault();
+    one_fault();
+    one_judgement();
 }

@@ -2,6 +2,7 @@
 #![tactic(auto)]
 
 mod answer;
+mod certified;
 mod check;
 mod documents;
 mod judged;
@@ -17,6 +18,3 @@ mod words;
 pub use documents::{Content, Document};
 pub use status::{Answer, Status};
 pub use top::run;
-
-#[cfg(test)]
-mod tests;

@@ -2,11 +2,12 @@
 ghost use Rattle.std.specs.Prelude.{◌≡◌, Some, option_map, string_bytes};
 ghost use Rattle.xc_top.specs.declared.status.Stop.TheVariants as stop;
 ghost use Rattle.xc_top.specs.Steps.Stops.{IsSettled, IfNamed};
-ghost use Rattle.xc_top.specs.Answers.{make_answer, unread, refused, refused_at, refusal, numbered_refusal, tree_refusal, schema_refusal, link_refusal, report_refusal, name_refusal};
+ghost use Rattle.xc_top.specs.Answers.{make_answer, unread, refused, refused_at, refusal, numbered_refusal, tree_refusal, schema_refusal, link_refusal, report_refusal, name_refusal, certificate_refusal};
 
 use crate::status::{Answer, Status, Stop};
 use std::alloc::Global;
 use xc_calc::LinkFault;
+use xc_cert::CertFault;
 use xc_concepts::SchemaFault;
 use xc_elements::TreeFault;
 use xc_lines::{placed_refusal_line, read_fault_line, refusal_line};
@@ -130,6 +131,14 @@ pub fn report_refusal(alloc: Global, word: &str, fault: &ReportFault) -> Stop
     ensures status { IfNamed result (λ answer. IsSettled answer.status) }
 {
     refusal(alloc, word, fault.code(), fault.place())
+}
+
+/// A text that is no certificate.
+pub fn certificate_refusal(alloc: Global, word: &str, fault: CertFault) -> Stop
+    ensures answer { IfNamed result (λ answer. certificate_refusal word.now fault ≡ Some answer) }
+    ensures status { IfNamed result (λ answer. IsSettled answer.status) }
+{
+    numbered_refusal(alloc, word, fault.code(), fault.place())
 }
 
 /// A name that the report is asked for and that has a fault, with the word in which it stands.

@@ -12,7 +12,7 @@ ghost use Rattle.xc_top.specs.Sums.{IsReportAnswer, AreNodesOf, is_number_of, Ar
 ghost use Rattle.xc_top.specs.Steps.Views.{asked};
 ghost use Rattle.xc_top.specs.Words.{texts, name_of};
 
-use crate::judged::{Question, answer_facts};
+use crate::judged::{Goal, Question, answer_facts};
 use crate::refusals::{name_refusal, report_refusal};
 use crate::status::{Answer, Stop};
 use crate::words::{Sum, is_negative, name_of};
@@ -229,6 +229,6 @@ fn question_of<'a>(sum: &Sum<'a>) -> Question<'a>
     Question {
         report: sum.report,
         mode: sum.mode,
-        close: "",
+        goal: Goal::Findings(""),
     }
 }

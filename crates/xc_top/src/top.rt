@@ -1,5 +1,5 @@
 // The top call.
-ghost use Rattle.std.specs.Prelude.{◌≡◌, ◌≢◌, ◌≤◌, ◌+◌, ◌⊎◌, ℕ, List, None, true, length, IfSome};
+ghost use Rattle.std.specs.Prelude.{◌≡◌, ◌≢◌, ◌≤◌, ◌+◌, ◌⊎◌, ℕ, List, None, Some, true, length, IfSome};
 ghost use Rattle.std.specs.Io.KnownBytes.{Appends, Keeps};
 ghost use Rattle.xc_io.specs.Faults.{Rose, next_count};
 ghost use Rattle.xc_lines.specs.Lines.{usage_line};
@@ -7,7 +7,8 @@ ghost use Rattle.xc_top.specs.Answer.{IsAnswerOf};
 ghost use Rattle.xc_top.specs.Answers.{make_answer};
 ghost use Rattle.xc_top.specs.Laws.{AnswersAreOne};
 ghost use Rattle.xc_top.specs.Run.{IsAnswered, AppendsPart, IsReadFaultLine, HasFiles, IsUnrefused, IsJudged, LacksFile};
-ghost use Rattle.xc_top.specs.Words.{files_named, words_of, texts};
+ghost use Rattle.xc_top.specs.Proven.{IsProven};
+ghost use Rattle.xc_top.specs.Words.{VerifyOf, VerifyWords, files_named, words_of, texts};
 ghost use Rattle.xc_top.specs.declared.status.Answer.{Answer};
 
 use crate::Status;
@@ -17,6 +18,7 @@ use crate::words::read_words;
 use std::alloc::Global;
 use xc_io::{Shelf, Sink, SinkFault};
 use xc_lines::usage_line;
+use xc_verify::laws::acceptance_proves;
 
 /// Does what the words ask for, over the files of the shelf, and writes the answer to the sink in one put.
 ///
@@ -24,15 +26,20 @@ use xc_lines::usage_line;
 ///
 /// - `sum MODE REPORT TOTAL TERM...` with one TERM or more: TOTAL is the name `prefix:local` of a concept; a TERM is
 ///   `+` or `-` and such a name;
-/// - `check [--old-arcs] MODE REPORT DOC...` with one DOC or more.
+/// - `check [--old-arcs] MODE REPORT DOC...` with one DOC or more;
+/// - `verify [--old-arcs] MODE CERTIFICATE REPORT DOC...` with one DOC or more.
 ///
-/// MODE is `rounding` or `truncation`. REPORT and each DOC are names of files, not empty and without `-` at their
+/// MODE is `rounding` or `truncation`. CERTIFICATE, REPORT and each DOC are names of files, not empty and without `-` at their
 /// heads.
 pub fn run<S: Shelf, O: Sink>(alloc: Global, words: &[String], shelf: &mut S, out: &mut O) -> Status
     // What is written is the answer of the words and the files, and the status is the answer's.
     ensures answer { IfSome (S.held shelf.old) (λ files. IsAnswered result →
         (text : List ℕ) × IsAnswerOf (texts words.now) files (make_answer result text)
         × Appends (O.written out.old) (O.written out.new) text) }
+
+    // Where `verify` ends soundly, the certificate proves what it claims of the report, whoever wrote it.
+    ensures proven { IfSome (S.held shelf.old) (λ files. (verify : VerifyWords) → words_of (texts words.now) ≡ Some (VerifyOf verify) →
+        result ≡ Status.Sound → IsProven verify files) }
 
     // There is no other: words and files have one answer, whatever numbers names get on the way.
     ensures one { AnswersAreOne }
@@ -88,6 +95,7 @@ pub fn run<S: Shelf, O: Sink>(alloc: Global, words: &[String], shelf: &mut S, ou
         (result ≡ Status.Memory) ⊎ IsJudged result) }
 {
     answers_are_one();
+    acceptance_proves();
     let Some(command) = read_words(words) else {
         return write_text(out, usage_line().as_bytes(), Status::Usage);
     };

@@ -1,7 +1,7 @@
 // The words of a command line.
-ghost use Rattle.std.specs.Prelude.{◌≡◌, option_map, string_bytes, map};
-ghost use Rattle.xc_top.specs.Steps.Named.{named, named_check, named_sum};
-ghost use Rattle.xc_top.specs.Words.{SumOf, CheckOf, words_of, sum_of, check_of, check_of_kind, texts, mode_of, is_file_word, are_file_words, is_name_word, is_signed, is_term_word, is_sum, are_terms, name_of, is_negative};
+ghost use Rattle.std.specs.Prelude.{◌≡◌, ◌∷◌, option_map, string_bytes, map};
+ghost use Rattle.xc_top.specs.Steps.Named.{named, named_check, named_sum, named_verify};
+ghost use Rattle.xc_top.specs.Words.{SumOf, CheckOf, VerifyOf, words_of, sum_of, check_of, check_of_kind, verify_of, verify_of_kind, arcs_chosen, texts, mode_of, is_file_word, are_file_words, is_name_word, is_signed, is_term_word, is_sum, are_terms, name_of, is_negative};
 
 use xc_calc::ArcKind;
 use xc_chars::split;
@@ -33,11 +33,21 @@ pub struct Check<'a> {
     pub documents: &'a [String],
 }
 
+/// What the words of `verify` name.
+#[derive(Drop)]
+pub struct Verify<'a> {
+    /// The certificate's file.
+    pub certificate: &'a str,
+    /// What it is judged over.
+    pub over: Check<'a>,
+}
+
 /// What accepted words ask for.
 #[derive(Drop)]
 pub enum Command<'a> {
     Sum(Sum<'a>),
     Check(Check<'a>),
+    Verify(Verify<'a>),
 }
 
 /// What these words ask for, where they are accepted.
@@ -50,6 +60,9 @@ pub fn read_words(words: &[String]) -> Option<Command<'_>>
     }
     if command.as_str() == "check" {
         return as_check(read_check(words));
+    }
+    if command.as_str() == "verify" {
+        return as_verify(read_verify(words));
     }
     None
 }
@@ -68,6 +81,15 @@ fn as_check(check: Option<Check<'_>>) -> Option<Command<'_>>
 {
     match check {
         Some(check) => Some(Command::Check(check)),
+        None => None,
+    }
+}
+
+fn as_verify(verify: Option<Verify<'_>>) -> Option<Command<'_>>
+    ensures { option_map named result ≡ option_map VerifyOf (option_map named_verify verify.entry) }
+{
+    match verify {
+        Some(verify) => Some(Command::Verify(verify)),
         None => None,
     }
 }
@@ -95,23 +117,58 @@ fn read_sum(words: &[String]) -> Option<Sum<'_>>
 fn read_check(words: &[String]) -> Option<Check<'_>>
     ensures { option_map named_check result ≡ check_of (texts words.now) }
 {
-    let (first, rest) = words.split_first()?;
-    if first.as_str() == "--old-arcs" {
-        return read_files(ArcKind::Old, rest);
-    }
-    read_files(ArcKind::New, words)
+    let (kind, words) = arcs_chosen(words);
+    read_files(kind, words)
 }
 
-// What they name without the one that chooses the arcs.
+// What the words behind `verify` name.
+fn read_verify(words: &[String]) -> Option<Verify<'_>>
+    ensures { option_map named_verify result ≡ verify_of (texts words.now) }
+{
+    let (kind, words) = arcs_chosen(words);
+    let (mode, words) = words.split_first()?;
+    let (certificate, words) = words.split_first()?;
+    if !is_file_word(certificate.as_str()) {
+        return None;
+    }
+    let over = read_rest(kind, mode.as_str(), words)?;
+    Some(Verify {
+        certificate: certificate.as_str(),
+        over,
+    })
+}
+
+// Which arcs count, and the words behind the one that chooses them.
+fn arcs_chosen(words: &[String]) -> (ArcKind, &[String])
+    ensures { (result.0, texts result.1.now) ≡ arcs_chosen (texts words.now) }
+{
+    let Some((first, rest)) = words.split_first() else {
+        return (ArcKind::New, words);
+    };
+    if first.as_str() == "--old-arcs" {
+        (ArcKind::Old, rest)
+    } else {
+        (ArcKind::New, words)
+    }
+}
+
+// What the words behind `check` name, without the one that chooses the arcs.
 fn read_files(kind: ArcKind, words: &[String]) -> Option<Check<'_>>
     ensures { option_map named_check result ≡ check_of_kind kind (texts words.now) }
 {
     let (mode, words) = words.split_first()?;
+    read_rest(kind, mode.as_str(), words)
+}
+
+// The same, with the word of the mode apart.
+fn read_rest<'a>(kind: ArcKind, mode: &str, words: &'a [String]) -> Option<Check<'a>>
+    ensures { option_map named_check result ≡ check_of_kind kind (mode.now ∷ texts words.now) }
+{
     let (report, documents) = words.split_first()?;
     if !(is_file_word(report.as_str()) && are_file_words(documents)) {
         return None;
     }
-    let mode = mode_of(mode.as_str())?;
+    let mode = mode_of(mode)?;
     Some(Check {
         kind,
         mode,

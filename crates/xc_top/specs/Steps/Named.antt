@@ -1,9 +1,10 @@
 -- What borrowed words name.
-use Rattle.xc_top.specs.Words.{SumWords, CheckWords, CommandWords, SumOf, CheckOf, texts}
+use Rattle.xc_top.specs.Words.{SumWords, CheckWords, VerifyWords, CommandWords, SumOf, CheckOf, VerifyOf, texts}
 use Rattle.xc_top.specs.declared.words.Check.{Check}
 use Rattle.xc_top.specs.declared.words.Command as lent
 use Rattle.xc_top.specs.declared.words.Command.TheVariants as command
 use Rattle.xc_top.specs.declared.words.Sum.{Sum}
+use Rattle.xc_top.specs.declared.words.Verify.{Verify}
 
 abbrev pub named_sum : Sum → SumWords
 named_sum sum = record { mode = sum.mode; report = sum.report.now; total = sum.total.now; terms = texts sum.terms.now }
@@ -11,6 +12,10 @@ named_sum sum = record { mode = sum.mode; report = sum.report.now; total = sum.t
 abbrev pub named_check : Check → CheckWords
 named_check check = record { kind = check.kind; mode = check.mode; report = check.report.now; documents = texts check.documents.now }
 
+abbrev pub named_verify : Verify → VerifyWords
+named_verify verify = record { certificate = verify.certificate.now; over = named_check verify.over }
+
 abbrev pub named : lent.Command → CommandWords
 named (command.Sum sum) = SumOf (named_sum sum)
 named (command.Check check) = CheckOf (named_check check)
+named (command.Verify verify) = VerifyOf (named_verify verify)

@@ -5,6 +5,7 @@ use Rattle.xc_top.specs.Answers.{make_answer}
 use Rattle.xc_top.specs.Steps.Named.{named}
 use Rattle.xc_top.specs.Run.{AppendsPart, IsJudged}
 use Rattle.xc_top.specs.declared.status.Status.TheVariants as status
+use Rattle.xc_top.proofs.Accepted.{run_proven, none_proven, sound_written, sound_unread}
 use Rattle.xc_top.proofs.Leaving.{over_failed, over_told}
 use Rattle.xc_top.proofs.Ran.{usage_answer, usage_files, usage_unjudged, command_answer, command_held, fault_line, few_fetches, judged, lacking, read_fault_or_none, no_read_fault, no_write_fault, same_answer, read_or_write}
 use Rattle.xc_top.proofs.Stops.{if_any, if_then}
@@ -150,3 +151,20 @@ returns-in-Ok-clause-completes g c =
             (c.write_text-in-Ok.ensures.written (λ failed. write (c.write_text-in-Ok.ensures.fault failed))).0,
           )) (over_told _ _ _ _ _ _ _ c.in-Ok.ensures.answer is_none).told
     ]
+
+-- where a run of `verify` is sound, its answer is, and that has accepted
+pub returns-in-Ok-clause-proven : goal.returns-in-Ok-clause-proven
+returns-in-Ok-clause-proven g c =
+    elim (read_fault_or_none c.in-Ok.answer.status) [
+      | inl is_read ↦ if_any (g.S.Shelf.held c.args.shelf.now) (λ files verify is sound.
+          let wrote = c.write_text-in-Ok.ensures.written (λ failed. absurd (sound_written (sym sound ∙ failed))) in
+          absurd (sound_unread (sym sound ∙ wrote.0 ∙ is_read)))
+      | inr is_none ↦ if_then (g.S.Shelf.held c.args.shelf.now) (λ files told verify is sound.
+          let wrote = c.write_text-in-Ok.ensures.written (λ failed. absurd (sound_written (sym sound ∙ failed))) in
+          run_proven c.acceptance_proves.ensures _ (named c.in-Some.command) verify files c.in-Ok.answer c.in-Some.ensures is (sym wrote.0 ∙ sound) told)
+          (over_told _ _ _ _ _ _ _ c.in-Ok.ensures.answer is_none).told
+    ]
+
+pub returns-in_default-clause-proven : goal.returns-in_default-clause-proven
+returns-in_default-clause-proven g c =
+    if_any (g.S.Shelf.held c.args.shelf.now) (λ files verify is sound. none_proven _ verify files c.in_default.ensures is)

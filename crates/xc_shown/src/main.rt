@@ -8,6 +8,7 @@ mod items;
 mod linkbases;
 mod nodes;
 mod reports;
+mod runs;
 mod schemas;
 mod taxonomies;
 mod trees;
@@ -35,6 +36,7 @@ fn show(alloc: Global, subject: &str, parts: &[Part]) -> Result<String, AllocErr
         "schemas" => schemas::show(alloc, parts),
         "linkbases" => linkbases::show(alloc, parts),
         "reports" => reports::show(alloc, parts),
+        "runs" => runs::show(alloc, parts),
         _ => Ok(String::new(alloc)),
     }
 }

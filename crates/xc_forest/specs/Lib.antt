@@ -1,0 +1,4 @@
+pub mod Forests
+pub mod Laws
+pub mod Settled
+pub mod Steps

@@ -1,0 +1,9 @@
+pub mod Counted
+pub mod Edges
+pub mod Links
+pub mod Scaled
+pub mod Shares
+pub mod Spans
+pub mod Splits
+pub mod Trails
+pub mod Vertices

@@ -1,0 +1,6 @@
+use Rattle.xc_corners.proofs.WholeProblems.{whole_too}
+use Rattle.xc_corners.proofs.FirstNumbers.{first_factor, first_row_value, first_range_value}
+use Rattle.xc_corners.proofs.laws.problems_are_whole.Goals as goal
+
+pub returns : goal.returns
+returns c = record { whole = whole_too; factors = first_factor; rows = first_row_value; ranges = first_range_value }

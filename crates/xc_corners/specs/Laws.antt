@@ -1,0 +1,123 @@
+-- What follows from the definitions for all problems.
+use Rattle.std.specs.Prelude.{◌≡◌, ◌≢◌, ℕ, suc, ◌+◌, ◌^◌, ◌<◌, ◌≤◌, Bool, true, false, pos, ◌*ℤ◌, length}
+use Rattle.xc_frac.specs.declared.wide.Op.TheVariants.{Add, Mul}
+use Rattle.xc_model.specs.Ratio.{Ratio, IsOver}
+use Rattle.xc_corners.specs.Choices.{first, exchanged, Exchange, Exchanges, Moves, IsReached, IsReachedBy, IsFeasible, IsConflict}
+use Rattle.xc_corners.specs.Corners.{variables, Corner, Factors, IsSolvedForm}
+use Rattle.xc_corners.specs.Operations.{Gives, IsOwnFactor, IsOtherFactor, IsProductFactor, IsFactor, IsValuePart, IsStep, IsMove, IsSumOf, weights_of_range, entries_of, IsLowSum, IsLowPart, part, passed_bound}
+use Rattle.xc_corners.specs.Problems.{WholeProblem, IsWholeProblem, IsProblem}
+use Rattle.xc_corners.specs.Tables.{first_factors, pivoted}
+use Rattle.xc_corners.specs.WholeNumbers.{whole}
+use Rattle.xc_corners.specs.declared.problem.Problem.{Problem}
+
+-- two solved forms of a corner have the same factors
+abbrev pub HasOneSolvedForm : Type 0
+HasOneSolvedForm = (p : WholeProblem) (x : Corner) (s t : Factors) (b j : ℕ) → IsSolvedForm p x s → IsSolvedForm p x t → b < variables p → j < variables p
+    → x.basic b ≡ true → x.basic j ≡ false → s.factor b j *ℤ pos t.over ≡ t.factor b j *ℤ pos s.over
+
+-- an exchange gives the solved form of the next corner, whatever the side on which the leaving variable is put
+abbrev pub ExchangeSolves : Type 0
+ExchangeSolves = (p : WholeProblem) (x : Corner) (t : Factors) (above : Bool) (b q : ℕ) → IsSolvedForm p x t → b < variables p → q < variables p
+    → x.basic b ≡ true → x.basic q ≡ false → t.factor b q ≢ pos 0 → IsSolvedForm p (exchanged p x above b q) (pivoted t b q)
+
+-- each corner of the run has a solved form
+abbrev pub ReachedSolved : Type 0
+ReachedSolved = (p : WholeProblem) (x : Corner) → IsWholeProblem p → IsReached p x → (t : Factors) × IsSolvedForm p x t
+
+-- where r left, and afterwards only variables up to r move, r does not enter again
+abbrev pub NeverComesBack : Type 0
+NeverComesBack = (p : WholeProblem) (r n : ℕ) (x y u w : Corner) (q b : ℕ) → IsWholeProblem p → Exchange p x r q y → Moves p (suc r) n y u → Exchange p u b r w
+    → q ≤ r → b ≤ r → ⊥
+
+-- from no corner do 3^v exchanges lead on, over v variables
+abbrev pub HasFewExchanges : Type 0
+HasFewExchanges = (p : WholeProblem) (n : ℕ) (x y : Corner) → IsWholeProblem p → Exchanges p n x y → n < 3 ^ variables p
+
+-- a corner has at most one choice, and one next corner
+abbrev pub HasOneChoice : Type 0
+HasOneChoice = (p : WholeProblem) (x y z : Corner) (b q d r : ℕ) → IsWholeProblem p → Exchange p x b q y → Exchange p x d r z → (b ≡ d) × (q ≡ r) × (y ≡ z)
+
+-- so n exchanges lead to one corner at most
+abbrev pub IsOneRun : Type 0
+IsOneRun = (p : WholeProblem) (n : ℕ) (y z : Corner) → IsWholeProblem p → IsReachedBy p n y → IsReachedBy p n z → y ≡ z
+
+-- no exchange follows a feasible corner
+abbrev pub FeasibleIsLast : Type 0
+FeasibleIsLast = (p : WholeProblem) (x y : Corner) (t : Factors) (b q : ℕ) → IsSolvedForm p x t → IsFeasible p x t → ¬ Exchange p x b q y
+
+-- nor a conflict
+abbrev pub ConflictIsLast : Type 0
+ConflictIsLast = (p : WholeProblem) (x y : Corner) (t : Factors) (above : Bool) (b d q : ℕ) → IsWholeProblem p → IsSolvedForm p x t → IsConflict p x t above b
+    → ¬ Exchange p x d q y
+
+-- ---- The operations at a corner give the factors and the values at the next one.
+
+-- what an exchange of b and q divides by is not 0, and is above 0
+pub record MayExchange (t : Factors) (b q : ℕ) : Type 0 where
+  pub over : 0 < t.over
+  pub some : t.factor b q ≢ pos 0
+
+-- the factors in the sum of q
+abbrev pub EnteringFactors : Type 0
+EnteringFactors = (t : Factors) (b q j : ℕ) (u : Ratio) → MayExchange t b q
+    → (IsOwnFactor (IsFactor t) b q u → IsFactor (pivoted t b q) q b u) × (j ≢ b → IsOtherFactor (IsFactor t) b q j u → IsFactor (pivoted t b q) q j u)
+
+-- the factor of b in another sum
+abbrev pub LeavingFactors : Type 0
+LeavingFactors = (t : Factors) (b q k : ℕ) (f u m : Ratio) → MayExchange t b q → k ≢ q → IsFactor t k q f → IsOwnFactor (IsFactor t) b q u → Gives Mul f u m
+    → IsFactor (pivoted t b q) k b m
+
+-- any other factor
+abbrev pub OtherFactors : Type 0
+OtherFactors = (t : Factors) (b q k j : ℕ) (f m r : Ratio) → MayExchange t b q → k ≢ q → j ≢ b → IsFactor t k j f → IsProductFactor (IsFactor t) b q k j m → Gives Add f m r
+    → IsFactor (pivoted t b q) k j r
+
+-- b and q are a basic variable and another one, to be exchanged at corner x of the solved form t
+pub record AtExchange (p : WholeProblem) (x : Corner) (t : Factors) (b q : ℕ) : Type 0 where
+  pub unit : 0 < p.unit
+  pub solved : IsSolvedForm p x t
+  pub some : t.factor b q ≢ pos 0
+  pub leaving : b < variables p
+  pub basic : x.basic b ≡ true
+  pub entering : q < variables p
+  pub other : x.basic q ≡ false
+
+-- the value of q
+abbrev pub EnteringValue : Type 0
+EnteringValue = (p : WholeProblem) (x : Corner) (t : Factors) (above : Bool) (b q : ℕ) (c : Bool) (v s r : Ratio) → AtExchange p x t b q
+    → IsValuePart p x t c q v → IsStep p x t above b q c s → Gives Add v s r → IsValuePart p (exchanged p x above b q) (pivoted t b q) c q r
+
+-- the value of another basic variable
+abbrev pub BasicValue : Type 0
+BasicValue = (p : WholeProblem) (x : Corner) (t : Factors) (above : Bool) (b q k : ℕ) (c : Bool) (v m r : Ratio) → AtExchange p x t b q → k < variables p → x.basic k ≡ true
+    → IsValuePart p x t c k v → IsMove p x t above b q k c m → Gives Add v m r → IsValuePart p (exchanged p x above b q) (pivoted t b q) c k r
+
+-- b gets the bound that it passed
+abbrev pub LeavingValue : Type 0
+LeavingValue = (p : WholeProblem) (x : Corner) (t : Factors) (above : Bool) (b q : ℕ) (c : Bool) (f : Ratio) → AtExchange p x t b q
+    → IsOver f (part c (passed_bound p above b)) p.unit → IsValuePart p (exchanged p x above b q) (pivoted t b q) c b f
+
+-- and every other variable keeps its value
+abbrev pub OtherValue : Type 0
+OtherValue = (p : WholeProblem) (x : Corner) (t : Factors) (above : Bool) (b q j : ℕ) (c : Bool) (v : Ratio) → AtExchange p x t b q → x.basic j ≡ false → j ≢ q
+    → IsValuePart p x t c j v → IsValuePart p (exchanged p x above b q) (pivoted t b q) c j v
+
+-- ---- A problem and the same in whole numbers.
+
+-- of a problem whose rows name ranges, none of them empty, unit and scale are positive, and the same holds in whole numbers
+abbrev pub IsWholeToo : Type 0
+IsWholeToo = (problem : Problem) → IsProblem problem → IsWholeProblem (whole problem)
+
+-- at the first corner the sum of the weights of a range in a row is its factor there
+abbrev pub FirstFactors : Type 0
+FirstFactors = (problem : Problem) (i j : ℕ) (f : Ratio) → IsSumOf (weights_of_range (entries_of problem i) j) f → IsFactor (first_factors (whole problem)) (length problem.ranges + i) j f
+
+-- the sum of these times the low bounds is the value of the row
+abbrev pub FirstRowValues : Type 0
+FirstRowValues = (problem : Problem) (i : ℕ) (c : Bool) (s : Ratio) → i < length problem.rows → IsLowSum problem i c (length problem.ranges) s
+    → IsValuePart (whole problem) (first (whole problem)) (first_factors (whole problem)) c (length problem.ranges + i) s
+
+-- and the value of a range is its low bound
+abbrev pub FirstRangeValues : Type 0
+FirstRangeValues = (problem : Problem) (c : Bool) (j : ℕ) (f : Ratio) → j < length problem.ranges → IsLowPart problem c j f
+    → IsValuePart (whole problem) (first (whole problem)) (first_factors (whole problem)) c j f

@@ -1,0 +1,51 @@
+//! What follows from the definitions for all problems. The functions do nothing: code calls one where its
+//! proof needs the clauses.
+ghost use Rattle.xc_corners.specs.Laws.{IsWholeToo, FirstFactors, FirstRowValues, FirstRangeValues, EnteringFactors, LeavingFactors, OtherFactors, EnteringValue, BasicValue, LeavingValue, OtherValue, HasOneSolvedForm, ExchangeSolves, ReachedSolved, NeverComesBack, HasFewExchanges, HasOneChoice, IsOneRun, FeasibleIsLast, ConflictIsLast};
+
+/// A corner has at most one solved form, an exchange gives that of the next corner, and each corner of the
+/// run has one.
+pub fn solved_forms()
+    ensures one { HasOneSolvedForm }
+    ensures next { ExchangeSolves }
+    ensures reached { ReachedSolved }
+{}
+
+/// In a part of a run in which only variables up to one move, that one does not leave and later enter. So
+/// a run over v variables has fewer than 3^v exchanges.
+pub fn runs_end()
+    ensures never_back { NeverComesBack }
+    ensures few { HasFewExchanges }
+{}
+
+/// A corner has at most one choice and one next corner, so the run is one list; and none follows a corner
+/// that is feasible or a conflict.
+pub fn one_run()
+    ensures choice { HasOneChoice }
+    ensures run { IsOneRun }
+    ensures feasible { FeasibleIsLast }
+    ensures conflict { ConflictIsLast }
+{}
+
+/// The operations at a corner give exactly the factors of the next one.
+pub fn operations_give_factors()
+    ensures entering { EnteringFactors }
+    ensures leaving { LeavingFactors }
+    ensures others { OtherFactors }
+{}
+
+/// The operations at a corner give exactly the values at the next one.
+pub fn operations_give_values()
+    ensures entering { EnteringValue }
+    ensures basic { BasicValue }
+    ensures leaving { LeavingValue }
+    ensures others { OtherValue }
+{}
+
+/// A problem whose rows name ranges, none of them empty, is one in whole numbers too; and the operations at
+/// the first corner give exactly its factors and values.
+pub fn problems_are_whole()
+    ensures whole { IsWholeToo }
+    ensures factors { FirstFactors }
+    ensures rows { FirstRowValues }
+    ensures ranges { FirstRangeValues }
+{}

@@ -1,0 +1,10 @@
+//! Problems of ranges and rows, and the walk along their corners: solved forms, the choice by least
+//! numbers, the exchange to the next corner, and which operations on fractions stand at a corner.
+#![tactic(auto)]
+
+mod corner;
+pub mod laws;
+mod problem;
+
+pub use corner::Corner;
+pub use problem::Problem;

@@ -124,3 +124,7 @@ first_range_value problem c j f h o =
     over_same_number f _ _ _ (over_scaled f _ (whole problem).unit (whole problem).scale (scale_positive problem) o)
     (sym (value_part (whole problem) (first (whole problem)) (first_factors (whole problem)) c j
     ∙ spread_at_other (whole problem) (first (whole problem)) (first_factors (whole problem)) (λ k. part c (bound (whole problem) (first (whole problem)) k)) j (first_other (whole problem) j (let k : j < length (whole problem).ranges = omega (arith, ranges_whole problem) in k))))
+
+pub counts_variables : (problem : Problem) → (length (whole problem).ranges ≡ length problem.ranges) × (variables (whole problem) ≡ length problem.ranges + length problem.rows)
+unfolding variables
+counts_variables problem = (ranges_whole problem, omega (arith, ranges_whole problem, rows_whole problem))

@@ -1,3 +1,4 @@
+pub mod Bounds
 pub mod CommonDenominators
 pub mod ExchangeNumbers
 pub mod FewExchanges

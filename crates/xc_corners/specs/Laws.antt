@@ -1,9 +1,12 @@
 -- What follows from the definitions for all problems.
-use Rattle.std.specs.Prelude.{◌≡◌, ◌≢◌, ℕ, suc, ◌+◌, ◌^◌, ◌<◌, ◌≤◌, Bool, true, false, pos, ◌*ℤ◌, length}
+use Rattle.std.specs.Prelude.{◌≡◌, ◌≢◌, ℕ, suc, ◌+◌, ◌^◌, ◌<◌, ◌≤◌, Bool, true, false, pos, negsuc, ◌*ℤ◌, length, Some, slice_get, if◌then◌else◌}
 use Rattle.xc_frac.specs.declared.wide.Op.TheVariants.{Add, Mul}
+use Rattle.xc_interval.specs.Ends.{value_of, is_open}
+use Rattle.xc_interval.specs.declared.interval.Interval.{Interval}
+use Rattle.xc_model.specs.Parts.{WholeParts}
 use Rattle.xc_model.specs.Ratio.{Ratio, IsOver}
 use Rattle.xc_corners.specs.Choices.{first, exchanged, Exchange, Exchanges, Moves, IsReached, IsReachedBy, IsFeasible, IsConflict}
-use Rattle.xc_corners.specs.Corners.{variables, Corner, Factors, IsSolvedForm}
+use Rattle.xc_corners.specs.Corners.{variables, low_bound, high_bound, Corner, Factors, IsSolvedForm}
 use Rattle.xc_corners.specs.Operations.{Gives, IsOwnFactor, IsOtherFactor, IsProductFactor, IsFactor, IsValuePart, IsStep, IsMove, IsSumOf, weights_of_range, entries_of, IsLowSum, IsLowPart, part, passed_bound}
 use Rattle.xc_corners.specs.Problems.{WholeProblem, IsWholeProblem, IsProblem}
 use Rattle.xc_corners.specs.Tables.{first_factors, pivoted}
@@ -121,3 +124,24 @@ FirstRowValues = (problem : Problem) (i : ℕ) (c : Bool) (s : Ratio) → i < le
 abbrev pub FirstRangeValues : Type 0
 FirstRangeValues = (problem : Problem) (c : Bool) (j : ℕ) (f : Ratio) → j < length problem.ranges → IsLowPart problem c j f
     → IsValuePart (whole problem) (first (whole problem)) (first_factors (whole problem)) c j f
+
+-- the bounds of a range, by its ends: the value of an end is the real part, and 1 or -1 at an open end the tiny one
+pub record HasEndBounds (problem : Problem) (j : ℕ) (range : Interval Ratio) (f : Ratio) : Type 0 where
+  pub low_real : IsOver (value_of range.low) (low_bound (whole problem) j).real (whole problem).unit
+  pub low_tiny : IsOver f (if is_open range.low then pos 1 else pos 0) 1 → IsOver f (low_bound (whole problem) j).tiny (whole problem).unit
+  pub high_real : IsOver (value_of range.high) (high_bound (whole problem) j).real (whole problem).unit
+  pub high_tiny : IsOver f (if is_open range.high then negsuc 0 else pos 0) 1 → IsOver f (high_bound (whole problem) j).tiny (whole problem).unit
+
+abbrev pub EndBounds : Type 0
+EndBounds = (problem : Problem) (j : ℕ) (range : Interval Ratio) (f : Ratio) → slice_get problem.ranges j ≡ Some range → HasEndBounds problem j range f
+
+-- both bounds of the variable of a row are 0
+abbrev pub zero_pair : WholeParts
+zero_pair = record { real = pos 0; tiny = pos 0 }
+
+abbrev pub RowBounds : Type 0
+RowBounds = (problem : Problem) (j : ℕ) → length problem.ranges ≤ j → (low_bound (whole problem) j ≡ zero_pair) × (high_bound (whole problem) j ≡ zero_pair)
+
+-- there are as many variables as ranges and rows
+abbrev pub CountsVariables : Type 0
+CountsVariables = (problem : Problem) → (length (whole problem).ranges ≡ length problem.ranges) × (variables (whole problem) ≡ length problem.ranges + length problem.rows)

@@ -4,7 +4,7 @@ ghost use Rattle.xc_corners.specs.Operations.{IsZero};
 ghost use Rattle.xc_frac.specs.declared.wide.Wide.{Wide};
 ghost use Rattle.xc_model.specs.Ratio.{Ratio};
 ghost use Rattle.xc_tableau.specs.Exchanges.{PassesIn, IsExchanged};
-ghost use Rattle.xc_tableau.specs.Tables.{Has};
+ghost use Rattle.xc_tableau.specs.Tables.{Has, IsFilled};
 
 use crate::pivoting::{Pivot, exchange, place};
 use std::alloc::Global;
@@ -39,6 +39,7 @@ impl Tableau {
         ensures rows { IfOk result (λ t. t.rows ≡ rows) }
         ensures columns { IfOk result (λ t. t.columns ≡ columns) }
         ensures zero { IfOk result (λ t. All IsZero t.entries) }
+        ensures filled { IfOk result IsFilled }
     {
         let count = rows as usize * columns as usize;
         Ok(Tableau {
@@ -64,6 +65,7 @@ impl Tableau {
         requires column { column < self.old.columns }
         ensures rows { self.new.rows ≡ self.old.rows }
         ensures columns { self.new.columns ≡ self.old.columns }
+        ensures filled { IsFilled self.new }
         ensures entries { self.new.entries ≡ slice_set self.old.entries (row * self.old.columns + column) value }
     {
         self.entries[place(self.columns, row, column)] = value;
@@ -78,6 +80,7 @@ impl Tableau {
         ensures exchanged { OnOk result (IsExchanged self.old row column self.new) }
         ensures fits { OnOk result ((w : Wide) → ¬ PassesIn self.old row column w) }
         ensures passes { IfErr result (PassesIn self.old row column) }
+        ensures filled { IsFilled self.new }
         ensures unchanged { OnErr result (self.new ≡ self.old) }
     {
         let pivot = Pivot {

@@ -67,16 +67,16 @@ if_passes (Err w) P op f g e h k = subst P (sym e) (k h)
 
 -- ---- One answer each.
 
-over_one : (f g : Ratio) (n : ℤ) (d : ℕ) → IsOver f n d → IsOver g n d → f ≡ g
+pub over_one : (f g : Ratio) (n : ℤ) (d : ℕ) → IsOver f n d → IsOver g n d → f ≡ g
 over_one f g n d h l = one_lowest f g (same-trans (fraction_of f) (ratio n d h.positive) (fraction_of g) (over_same f n d h.positive h) (same-sym (fraction_of g) (ratio n d h.positive) (over_same g n d h.positive l)))
 
 negative_one : (f r s : Ratio) → IsNegativeOf f r → IsNegativeOf f s → r ≡ s
 negative_one f r s h l = one_lowest r s (same-trans (fraction_of r) (neg_of (fraction_of f)) (fraction_of s) h (same-sym (fraction_of s) (neg_of (fraction_of f)) l))
 
-product_one : (f g r s : Ratio) → Gives Mul f g r → Gives Mul f g s → r ≡ s
+pub product_one : (f g r s : Ratio) → Gives Mul f g r → Gives Mul f g s → r ≡ s
 product_one f g r s h l = one_lowest r s (same-trans (fraction_of r) (product_of (fraction_of f) (fraction_of g)) (fraction_of s) h (same-sym (fraction_of s) (product_of (fraction_of f) (fraction_of g)) l))
 
-quotient_one : (f g r s : Ratio) → Gives Div f g r → Gives Div f g s → r ≡ s
+pub quotient_one : (f g r s : Ratio) → Gives Div f g r → Gives Div f g s → r ≡ s
 quotient_one f g r s h l = one_lowest r s (quotient_unique (fraction_of r) (fraction_of s) (fraction_of f) (fraction_of g) h l)
 
 -- what a product or a quotient gives shows that it does not pass

@@ -1,0 +1,15 @@
+use Rattle.std.proofs.Common.{◌≡◌, ◌-◌, ◌^◌, length}
+use Rattle.xc_corners.specs.Corners.{variables}
+use Rattle.xc_corners.specs.WholeNumbers.{whole}
+use Rattle.xc_pivot.specs.States.{IsShaped}
+use Rattle.xc_pivot.specs.Walks.{AtTurn}
+use Rattle.xc_pivot.proofs.walking.run.Given as goal
+
+abbrev pub invariant-loop-choice : goal.invariant-loop-choice
+invariant-loop-choice g l = record {
+  shaped : IsShaped l.problem l.state;
+  turn : AtTurn l.problem l.turns l.state;
+}
+
+abbrev pub decreases-loop-choice : goal.decreases-loop-choice
+decreases-loop-choice g l = 3 ^ variables (whole l.problem) - l.turns

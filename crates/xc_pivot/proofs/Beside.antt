@@ -1,5 +1,5 @@
 -- Values beside bounds.
-use Rattle.std.proofs.Common.{◌≡◌, ◌≢◌, ℕ, ◌*◌, ◌<◌, Bool, true, false, ℤ, pos, ◌*ℤ◌, ◌<ℤ◌, ◌⊎◌, inl, inr, refl, sym, ap, subst, ◌∙◌, arith, cond, negsuc, ◌↔◌, ◌&&◌, ⊎_elim}
+use Rattle.std.proofs.Common.{◌≡◌, ◌≢◌, ℕ, ◌*◌, ◌<◌, Bool, true, false, ℤ, pos, inl, inr, refl, sym, ap, subst, arith, cond, negsuc, ◌↔◌, ◌&&◌, ⊎_elim}
 use Rattle.std.specs.declared.cmp.Ordering.{Ordering}
 use Rattle.std.specs.declared.cmp.Ordering.TheVariants.{Less, Equal, Greater}
 use Rattle.std.proofs.lemmas.Int.{ints}
@@ -23,7 +23,7 @@ use Rattle.xc_interval.specs.declared.interval.Interval.{Interval}
 use Rattle.xc_model.specs.Order.{SameSign}
 use Rattle.xc_frac.specs.declared.delta.Delta.{Delta}
 use Rattle.xc_model.specs.Parts.{WholeParts, ArePartsOver, OrdersWhole}
-use Rattle.xc_model.specs.Ratio.{Ratio, fraction_of, IsOver}
+use Rattle.xc_model.specs.Ratio.{Ratio, IsOver}
 use Rattle.xc_model.proofs.NumbersOver.{over_number}
 use Rattle.xc_pivot.specs.Bounds.{IsSide, IsBelowAt}
 use Rattle.xc_pivot.specs.Deltas.{of_part, ArePartsOf, IsLowOf, IsHighOf}

@@ -1,5 +1,5 @@
 -- Operations on both parts of a number.
-use Rattle.std.proofs.Common.{◌≡◌, Bool, true, false, ◌⊎◌, inl, inr, refl, sym, subst, Ok, Err}
+use Rattle.std.proofs.Common.{Bool, true, false, inl, inr, refl, sym, subst, Ok, Err}
 use Rattle.std.specs.Prelude.{Result, IfOk, IfErr, OnOk}
 use Rattle.xc_corners.specs.Operations.{operation, Gives}
 use Rattle.xc_frac.specs.Passes.{Passes, PassesAs, FirstPasses}

@@ -1,9 +1,9 @@
 -- The operations of an exchange in the table are those at the corner.
-use Rattle.std.proofs.Common.{◌≡◌, ◌≢◌, ℕ, ◌+◌, ◌*◌, ◌<◌, ◌≤◌, Bool, true, false, List, length, get_or, ◌⊎◌, inl, inr, ⊎_elim, refl, sym, ap, subst, ◌∙◌, arith, Option, Some, None, slice_get}
-use Rattle.std.proofs.lemmas.Bool.{cases_eq, false≢true}
-use Rattle.std.proofs.lemmas.Option.{slice_get_cases, slice_get_within}
+use Rattle.std.proofs.Common.{◌≡◌, ◌≢◌, ℕ, ◌<◌, ◌≤◌, true, false, List, length, get_or, ◌⊎◌, inl, inr, sym, subst, ◌∙◌, arith, Some, None, slice_get}
+use Rattle.std.proofs.lemmas.Bool.{false≢true}
+use Rattle.std.proofs.lemmas.Option.{slice_get_cases}
 use Rattle.xc_corners.specs.Corners.{variables, Corner, Factors}
-use Rattle.xc_corners.specs.Operations.{Gives, IsOwnFactor, IsOtherFactor, IsProductFactor, IsFactor, IsBasic, IsOther, IsNegativeOf, IsOne, StandsInExchange, own_divided, other_divided, own_times, other_times, other_added}
+use Rattle.xc_corners.specs.Operations.{IsOwnFactor, IsOtherFactor, IsProductFactor, IsFactor, IsBasic, IsOther, StandsInExchange, own_divided, other_divided, own_times, other_times, other_added}
 use Rattle.xc_corners.specs.Problems.{WholeProblem}
 use Rattle.xc_corners.specs.WholeNumbers.{whole}
 use Rattle.xc_corners.specs.declared.problem.Problem.{Problem}
@@ -11,7 +11,7 @@ use Rattle.xc_frac.specs.declared.wide.Wide.{Wide}
 use Rattle.xc_model.specs.Ratio.{Ratio}
 use Rattle.xc_tableau.specs.Tables.{Table, Has, IsFilled}
 use Rattle.xc_tableau.proofs.Exchanging.{has_some, over_one}
-use Rattle.xc_pivot.specs.States.{is_row, HasRow, HasColumn, ArePlaces, AreFactors, IsAt}
+use Rattle.xc_pivot.specs.States.{HasRow, HasColumn, ArePlaces, AreFactors, IsAt}
 use Rattle.xc_pivot.specs.Steps.{AreBasicAt}
 use Rattle.xc_pivot.specs.declared.types.Choice.{Choice}
 use Rattle.xc_pivot.specs.declared.types.State.{State}

@@ -1,16 +1,15 @@
 -- What is known along the run, and at its end.
-use Rattle.std.proofs.Common.{◌≡◌, ◌≢◌, ℕ, zero, suc, ◌+◌, ◌<◌, ◌≤◌, Bool, true, false, length, ◌⊎◌, inl, inr, ⊎_elim, refl, sym, ap, subst, ◌∙◌, arith}
-use Rattle.std.proofs.lemmas.Bool.{cases_lt, cases_eq}
-use Rattle.xc_corners.specs.Choices.{Leaves, Enters, exchanged, Exchange, Exchanges, first, IsReached, IsReachedBy, IsLast, IsFeasible, IsConflict}
-use Rattle.xc_corners.specs.Corners.{variables, Corner, Factors, IsSolvedForm}
+use Rattle.std.proofs.Common.{◌≡◌, ℕ, zero, suc, ◌+◌, ◌<◌, ◌≤◌, Bool, ◌⊎◌, inl, inr, ⊎_elim, refl, sym, subst, arith}
+use Rattle.std.proofs.lemmas.Bool.{cases_lt}
+use Rattle.xc_corners.specs.Choices.{Leaves, exchanged, Exchange, Exchanges, first, IsReachedBy, IsLast, IsFeasible, IsConflict}
+use Rattle.xc_corners.specs.Corners.{Corner, Factors, IsSolvedForm}
 use Rattle.xc_corners.specs.Operations.{StandsAt, at_first, in_exchange, in_step, PassesAt, IsBasic, IsOther, IsFactor, StandsInExchange, StandsInStep}
-use Rattle.xc_corners.specs.Problems.{WholeProblem, IsWholeProblem}
+use Rattle.xc_corners.specs.Problems.{IsWholeProblem}
 use Rattle.xc_corners.specs.WholeNumbers.{whole}
 use Rattle.xc_corners.specs.declared.problem.Problem.{Problem}
 use Rattle.xc_corners.proofs.Moves.{open_from_problem}
 use Rattle.xc_corners.proofs.OneChoice.{one_next, side_same}
-use Rattle.xc_corners.proofs.Runs.{one_more, along, one_run, feasible_last, conflict_last}
-use Rattle.xc_frac.specs.Passes.{Passes}
+use Rattle.xc_corners.proofs.Runs.{along, feasible_last, conflict_last}
 use Rattle.xc_frac.specs.declared.wide.Wide.{Wide}
 use Rattle.xc_pivot.specs.Firsts.{PassesFirst}
 use Rattle.xc_pivot.specs.States.{IsChoice, HasNoChoice}

@@ -1,5 +1,5 @@
 -- The exchange leads to the state of the next corner, and no operation of it passes.
-use Rattle.std.proofs.Common.{◌≡◌, ◌≢◌, ℕ, ◌+◌, ◌*◌, ◌<◌, Bool, true, false, ℤ, pos, ◌<ℤ◌, List, length, ◌⊎◌, inl, inr, ⊎_elim, refl, sym, ap, subst, ◌∙◌, arith}
+use Rattle.std.proofs.Common.{◌≡◌, ◌≢◌, ℕ, Bool, true, false, ℤ, pos, List, length, inl, ⊎_elim, sym, subst, arith}
 use Rattle.std.specs.Prelude.{slice_set}
 use Rattle.std.proofs.lemmas.Int.{ints}
 use Rattle.xc_corners.specs.Choices.{Helps, exchanged}
@@ -14,9 +14,8 @@ use Rattle.xc_frac.specs.declared.delta.Delta.{Delta}
 use Rattle.xc_frac.specs.declared.wide.Wide.{Wide}
 use Rattle.xc_model.specs.Ratio.{Ratio}
 use Rattle.xc_tableau.specs.Exchanges.{IsExchanged, PassesIn}
-use Rattle.xc_tableau.specs.Tables.{Table}
 use Rattle.xc_pivot.specs.States.{HasRow, HasColumn, AreFactors, AreValues, ArePlaces, IsShaped, IsAt, IsChoice}
-use Rattle.xc_pivot.specs.Steps.{PassesNext, IsStepOf, IsEnteringMoved, AreMoved, IsAtNext, IsChosen, replaced}
+use Rattle.xc_pivot.specs.Steps.{PassesNext, IsStepOf, IsEnteringMoved, AreMoved, IsAtNext, replaced}
 use Rattle.xc_pivot.specs.declared.types.Choice.{Choice}
 use Rattle.xc_pivot.specs.declared.types.Place.{Place}
 use Rattle.xc_pivot.specs.declared.types.State.{State}

@@ -1,5 +1,5 @@
 -- The places at the first corner tell it.
-use Rattle.std.proofs.Common.{◌≡◌, ◌≢◌, ℕ, ◌+◌, ◌-◌, ◌<◌, ◌≤◌, Bool, true, false, cond, ◌&&◌, List, [], ◌∷◌, ◌++◌, length, get_or, ◌⊎◌, inl, inr, refl, sym, ap, subst, ◌∙◌, arith, Option, Some, None, slice_get}
+use Rattle.std.proofs.Common.{◌≡◌, ℕ, ◌+◌, ◌-◌, ◌<◌, ◌≤◌, Bool, true, false, ◌&&◌, List, [], ◌∷◌, ◌++◌, length, get_or, ◌⊎◌, inl, inr, refl, sym, ap, subst, ◌∙◌, arith, Some, None, slice_get}
 use Rattle.std.specs.Prelude.{nat_lt, nat_le}
 use Rattle.std.proofs.lemmas.Bool.{cases_lt, lt-ltb}
 use borrow.Author.Tests.{ltb-true}
@@ -8,7 +8,7 @@ use Rattle.std.proofs.Math.ListN.{get_or-append}
 use Rattle.std.proofs.Math.Seq.{get_or-append_seam}
 use Rattle.std.proofs.lemmas.Option.{slice_get_within, get_or_from_slice_get, slice_get_read, slice_get_cases}
 use Rattle.xc_corners.specs.Choices.{first}
-use Rattle.xc_corners.specs.Corners.{variables, Corner}
+use Rattle.xc_corners.specs.Corners.{variables}
 use Rattle.xc_corners.specs.Problems.{WholeProblem}
 use Rattle.xc_corners.proofs.FirstCorner.{first_basic, first_other}
 use Rattle.xc_pivot.specs.Firsts.{first_place, AreFirstPlaces}

@@ -1,29 +1,26 @@
 -- The state of the first corner.
-use Rattle.std.proofs.Common.{◌≡◌, ◌≢◌, ℕ, ◌+◌, ◌<◌, ◌≤◌, Bool, true, false, List, [], length, get_or, ◌*◌, ◌⊎◌, inl, inr, ⊎_elim, refl, sym, ap, subst, ◌∙◌, arith, Some, slice_get}
+use Rattle.std.proofs.Common.{◌≡◌, ℕ, ◌+◌, ◌<◌, ◌≤◌, List, [], length, ◌*◌, ⊎_elim, sym, ap, subst, arith, Some, slice_get}
 use Rattle.std.proofs.lemmas.Bool.{cases_lt}
 use Rattle.std.proofs.lemmas.List.{get_or_past}
 use Rattle.std.proofs.lemmas.Option.{slice_get_within}
 use Rattle.xc_corners.specs.Choices.{first}
 use Rattle.xc_corners.specs.Corners.{variables, value}
 use Rattle.xc_corners.specs.Laws.{FirstFactors, FirstRowValues}
-use Rattle.xc_corners.specs.Operations.{IsSumOf, IsFactor, entries_of, weights_of_range, StandsAtFirst, weight_added, low_times, low_added}
+use Rattle.xc_corners.specs.Operations.{IsFactor, entries_of, StandsAtFirst, weight_added, low_times, low_added}
 use Rattle.xc_corners.specs.Problems.{IsWholeProblem}
 use Rattle.xc_corners.specs.Tables.{first_factors}
 use Rattle.xc_corners.specs.WholeNumbers.{whole}
 use Rattle.xc_corners.specs.declared.problem.Problem.{Problem}
 use Rattle.xc_corners.proofs.FirstCorner.{first_solved}
 use Rattle.xc_frac.specs.Passes.{Passes}
-use Rattle.xc_frac.specs.declared.delta.Delta.{Delta}
-use Rattle.xc_frac.specs.declared.wide.Op.TheVariants.{Add, Mul}
+use Rattle.xc_frac.specs.declared.wide.Op.TheVariants.{Mul}
 use Rattle.xc_frac.specs.declared.wide.Wide.{Wide}
 use Rattle.xc_model.specs.Ratio.{Ratio}
 use Rattle.xc_tableau.proofs.Exchanging.{over_one, product_stays}
-use Rattle.xc_tableau.specs.Tables.{Table, Has}
 use Rattle.xc_pivot.specs.Deltas.{of_part, ArePartsOf}
 use Rattle.xc_pivot.specs.Firsts.{PassesFirst, HasSums, RowsStay, LowStays, HasLowSums, AreFirstPlaces}
-use Rattle.xc_pivot.specs.States.{HasColumn, IsShaped, IsAt, AreFactors, AreValues}
+use Rattle.xc_pivot.specs.States.{HasColumn, IsShaped, IsAt}
 use Rattle.xc_pivot.proofs.Placed.{column_inside}
-use Rattle.xc_pivot.specs.declared.types.Place.{Place}
 use Rattle.xc_pivot.specs.declared.types.State.{State}
 use Rattle.xc_pivot.proofs.FirstPlaces.{row_is, column_is, first_inside, first_placed}
 use Rattle.xc_pivot.proofs.Summed.{sum_of_one}

@@ -1,27 +1,25 @@
 -- The factors and values after an exchange are those of the next corner.
-use Rattle.std.proofs.Common.{◌≡◌, ◌≢◌, ℕ, ◌+◌, ◌*◌, ◌<◌, Bool, true, false, List, length, ◌⊎◌, inl, inr, refl, sym, ap, subst, ◌∙◌, arith, Some, slice_get, pos}
+use Rattle.std.proofs.Common.{◌≡◌, ◌≢◌, ℕ, ◌*◌, ◌<◌, List, length, ◌⊎◌, inl, inr, refl, sym, subst, arith, Some, slice_get}
 use Rattle.std.specs.Prelude.{slice_set}
 use Rattle.std.proofs.lemmas.Option.{slice_get_within}
 use Rattle.xc_corners.specs.Choices.{exchanged}
-use Rattle.xc_corners.specs.Corners.{variables, Corner, Factors, IsSolvedForm, value}
+use Rattle.xc_corners.specs.Corners.{variables, Corner, Factors, value}
 use Rattle.xc_corners.specs.Laws.{EnteringFactors, LeavingFactors, OtherFactors, EnteringValue, BasicValue, MayExchange, AtExchange}
-use Rattle.xc_corners.specs.Operations.{Gives, IsOwnFactor, IsOtherFactor, IsProductFactor, IsFactor}
-use Rattle.xc_corners.specs.Problems.{WholeProblem}
+use Rattle.xc_corners.specs.Operations.{IsOwnFactor, IsOtherFactor, IsProductFactor, IsFactor}
 use Rattle.xc_corners.specs.Tables.{pivoted}
 use Rattle.xc_corners.specs.WholeNumbers.{whole}
 use Rattle.xc_corners.specs.declared.problem.Problem.{Problem}
 use Rattle.xc_frac.specs.declared.delta.Delta.{Delta}
-use Rattle.xc_frac.specs.declared.wide.Op.TheVariants.{Add, Mul}
 use Rattle.xc_model.specs.Ratio.{Ratio}
-use Rattle.xc_tableau.specs.Exchanges.{IsEntering, IsLeaving, IsRest, IsExchanged}
+use Rattle.xc_tableau.specs.Exchanges.{IsExchanged}
 use Rattle.xc_tableau.specs.Tables.{Table, Has}
 use Rattle.xc_pivot.specs.Deltas.{of_part, ArePartsOf}
 use Rattle.xc_pivot.specs.States.{HasRow, HasColumn, ArePlaces, AreFactors, AreValues}
-use Rattle.xc_pivot.specs.Steps.{IsEnteringMoved, IsBasicMoved, AreMoved, replaced}
+use Rattle.xc_pivot.specs.Steps.{IsEnteringMoved, AreMoved, replaced}
 use Rattle.xc_pivot.specs.declared.types.Choice.{Choice}
 use Rattle.xc_pivot.specs.declared.types.Place.{Place}
-use Rattle.xc_pivot.proofs.Placed.{row_basic, row_within, column_within, written_at, unwritten_at}
-use Rattle.xc_pivot.proofs.Replaced.{row_cases, column_cases, row_one}
+use Rattle.xc_pivot.proofs.Placed.{row_basic, row_within, written_at, unwritten_at}
+use Rattle.xc_pivot.proofs.Replaced.{row_cases, column_cases}
 
 module _ (problem : Problem) (m n : ℕ) (x : Corner) (t : Factors) (places : List Place) (choice : Choice) (a : ArePlaces m n x places) (hb : HasRow places choice.leaving.variable choice.leaving.row) (hq : HasColumn places choice.entering.variable choice.entering.column)
     (some : MayExchange t choice.leaving.variable choice.entering.variable) where

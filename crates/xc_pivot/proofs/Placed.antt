@@ -1,5 +1,5 @@
 -- What is read of the places, and what places tell of a corner.
-use Rattle.std.proofs.Common.{◌≡◌, ◌≢◌, ℕ, ◌+◌, ◌<◌, ◌≤◌, Bool, true, false, List, length, get_or, ◌⊎◌, inl, inr, refl, sym, ap, subst, ◌∙◌, arith, Option, Some, None, slice_get, pos, cond, ◌*◌}
+use Rattle.std.proofs.Common.{◌≡◌, ◌≢◌, ℕ, ◌<◌, Bool, true, false, List, length, get_or, inl, inr, refl, sym, ap, subst, ◌∙◌, arith, Some, slice_get, pos, cond, ◌*◌}
 use Rattle.std.specs.Prelude.{slice_set}
 use Rattle.std.proofs.lemmas.List.{get_or-set_same, get_or-set_other, length-set}
 use Rattle.std.proofs.lemmas.Option.{slice_get_read, slice_get_within, get_or_from_slice_get}
@@ -13,7 +13,7 @@ use Rattle.xc_frac.specs.declared.delta.Delta.{Delta}
 use Rattle.xc_model.specs.Parts.{WholeParts}
 use Rattle.xc_model.specs.Ratio.{Ratio}
 use Rattle.xc_pivot.specs.Deltas.{ArePartsOf}
-use Rattle.xc_pivot.specs.States.{is_row, HasRow, HasColumn, IsInside, ArePlaces, IsShaped, IsSideOf}
+use Rattle.xc_pivot.specs.States.{HasRow, HasColumn, ArePlaces, IsShaped, IsSideOf}
 use Rattle.xc_pivot.specs.declared.types.Place.{Place}
 use Rattle.xc_pivot.specs.declared.types.Place.TheVariants.{Row, Low, High}
 use Rattle.xc_pivot.specs.declared.types.State.{State}

@@ -1,12 +1,11 @@
 -- The places after an exchange.
-use Rattle.std.proofs.Common.{◌≡◌, ◌≢◌, ℕ, ◌+◌, ◌<◌, ◌≤◌, Bool, true, false, ◌&&◌, not, cond, eqb, List, length, get_or, ◌⊎◌, inl, inr, ⊎_elim, refl, sym, ap, subst, ◌∙◌, arith, Option, Some, None, slice_get}
+use Rattle.std.proofs.Common.{◌≡◌, ◌≢◌, ℕ, ◌<◌, ◌≤◌, Bool, true, false, List, length, ◌⊎◌, inl, inr, refl, sym, ap, subst, ◌∙◌, arith, Some, slice_get}
 use Rattle.std.specs.Prelude.{slice_set}
-use Rattle.std.proofs.lemmas.Bool.{cases_eq, false≢true, eq-eqb, ne_eqb}
+use Rattle.std.proofs.lemmas.Bool.{cases_eq, eq-eqb, ne_eqb}
 use Rattle.std.proofs.lemmas.List.{get_or-set_same, get_or-set_other, length-set}
-use Rattle.std.proofs.lemmas.Option.{slice_get_read, slice_get_within, get_or_from_slice_get, slice_get_cases}
-use Rattle.xc_corners.specs.Choices.{exchanged, is_same_pair}
-use Rattle.xc_corners.specs.Corners.{low_bound, high_bound, Corner}
-use Rattle.xc_corners.specs.Problems.{WholeProblem}
+use Rattle.std.proofs.lemmas.Option.{slice_get_read, slice_get_within, get_or_from_slice_get}
+use Rattle.xc_corners.specs.Choices.{exchanged}
+use Rattle.xc_corners.specs.Corners.{Corner}
 use Rattle.xc_corners.specs.WholeNumbers.{whole}
 use Rattle.xc_corners.specs.declared.problem.Problem.{Problem}
 use Rattle.xc_corners.proofs.Moves.{kept_basic, kept_high, left_basic, entered_basic}
@@ -15,7 +14,7 @@ use Rattle.xc_pivot.specs.Steps.{left_place, is_left_high, replaced}
 use Rattle.xc_pivot.specs.declared.types.Choice.{Choice}
 use Rattle.xc_pivot.specs.declared.types.Place.{Place}
 use Rattle.xc_pivot.specs.declared.types.Place.TheVariants.{Row, Low, High}
-use Rattle.xc_pivot.proofs.Placed.{written_at, unwritten_at, column_other, row_within, column_within}
+use Rattle.xc_pivot.proofs.Placed.{written_at, unwritten_at, row_within, column_within}
 
 pub some_one : {X : Type 0} (xs : List X) (j : ℕ) (a b : X) → slice_get xs j ≡ Some a → slice_get xs j ≡ Some b → a ≡ b
 some_one xs j a b e f = sym (get_or_from_slice_get xs j a a e) ∙ get_or_from_slice_get xs j b a f

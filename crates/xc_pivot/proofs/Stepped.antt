@@ -1,12 +1,12 @@
 -- Where the values are moved, no operation of the step passes.
-use Rattle.std.proofs.Common.{◌≡◌, ◌≢◌, ℕ, ◌+◌, ◌<◌, Bool, true, List, length, get_or, ◌⊎◌, inl, inr, refl, sym, subst, arith, Option, Some, None, slice_get, ◌≤◌}
+use Rattle.std.proofs.Common.{◌≡◌, ◌≢◌, ℕ, ◌<◌, true, List, length, get_or, ◌⊎◌, inl, inr, sym, subst, arith, Some, None, slice_get, ◌≤◌}
 use Rattle.std.proofs.lemmas.Option.{slice_get_cases}
 use Rattle.xc_corners.specs.Corners.{variables, Corner, Factors}
-use Rattle.xc_corners.specs.Operations.{operation, IsFactor, IsStep, IsMove, StandsInStep, gap_taken, step_divided, entering_moved, step_times, basic_moved}
+use Rattle.xc_corners.specs.Operations.{StandsInStep, gap_taken, step_divided, entering_moved, step_times, basic_moved}
 use Rattle.xc_corners.specs.Problems.{WholeProblem}
 use Rattle.xc_frac.specs.Passes.{Passes}
 use Rattle.xc_frac.specs.declared.delta.Delta.{Delta}
-use Rattle.xc_frac.specs.declared.wide.Op.TheVariants.{Add, Sub, Mul, Div}
+use Rattle.xc_frac.specs.declared.wide.Op.TheVariants.{Add, Mul, Div}
 use Rattle.xc_frac.specs.declared.wide.Wide.{Wide}
 use Rattle.xc_model.specs.Ratio.{Ratio}
 use Rattle.xc_tableau.proofs.Exchanging.{over_one, product_stays, quotient_stays}

@@ -1,5 +1,5 @@
 -- Sums of weights, one after another.
-use Rattle.std.proofs.Common.{◌≡◌, ◌≢◌, ℕ, zero, suc, ◌+◌, ◌*◌, ◌<◌, ◌≤◌, Bool, true, false, cond, eqb, List, [], ◌∷◌, ◌++◌, length, map, take, get_or, ◌⊎◌, inl, inr, ⊎_elim, refl, sym, ap, subst, ◌∙◌, arith, Some, slice_get, pos}
+use Rattle.std.proofs.Common.{◌≡◌, ◌≢◌, ℕ, zero, suc, ◌+◌, ◌*◌, ◌<◌, Bool, true, false, cond, eqb, List, [], ◌∷◌, ◌++◌, length, map, take, get_or, ⊎_elim, refl, sym, ap, subst, ◌∙◌, arith, Some, slice_get, pos}
 use Rattle.std.specs.Prelude.{filter, slice_set}
 use Rattle.std.proofs.lemmas.Bool.{cases_eq, eq-eqb, ne_eqb}
 use Rattle.std.proofs.lemmas.List.{take_more, append-nil}
@@ -8,7 +8,7 @@ use Rattle.xc_corners.specs.declared.problem.Problem.{Problem}
 use Rattle.xc_frac.specs.Passes.{Passes}
 use Rattle.xc_frac.specs.declared.wide.Op.TheVariants.{Add, Mul}
 use Rattle.xc_model.specs.Ratio.{Ratio, IsOver}
-use Rattle.xc_tableau.specs.Tables.{Table, Has, IsFilled}
+use Rattle.xc_tableau.specs.Tables.{Table, IsFilled}
 use Rattle.xc_tableau.proofs.Exchanging.{over_one, product_one}
 use Rattle.xc_tableau.proofs.Places.{place_below, places_apart}
 use Rattle.xc_frac.specs.declared.delta.Delta.{Delta}

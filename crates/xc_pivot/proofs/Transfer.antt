@@ -1,15 +1,14 @@
 -- Whichever solved form of a corner is taken, the same operations stand there.
-use Rattle.std.proofs.Common.{◌≡◌, ◌≢◌, ℕ, ◌*◌, ◌<◌, Bool, true, false, ℤ, pos, ◌*ℤ◌, refl, sym, ap, ◌∙◌, arith}
+use Rattle.std.proofs.Common.{◌≡◌, ℕ, ◌*◌, ◌<◌, Bool, true, false, ℤ, pos, ◌*ℤ◌, ap, arith}
 use Rattle.std.proofs.lemmas.Int.{ints}
 use Rattle.std.proofs.Math.Nat.{mul-pos}
 use Rattle.xc_corners.specs.Corners.{variables, Corner, Factors, IsSolvedForm, value}
 use Rattle.xc_corners.specs.Operations.{part, IsFactor, IsValuePart, IsBasic, IsOther, IsOwnFactor, IsOtherFactor, IsProductFactor, IsGap, IsStep, IsMove, StandsInExchange, own_divided, other_divided, own_times, other_times, other_added, StandsInStep, gap_taken, step_divided, entering_moved, step_times, basic_moved}
-use Rattle.xc_corners.specs.Pairs.{times}
 use Rattle.xc_corners.specs.Problems.{WholeProblem}
 use Rattle.xc_corners.proofs.OneChoice.{value_same}
 use Rattle.xc_corners.proofs.SolvedForms.{one_solved_form}
 use Rattle.xc_frac.specs.declared.wide.Wide.{Wide}
-use Rattle.xc_model.specs.Fraction.{Fraction, SameNumber}
+use Rattle.xc_model.specs.Fraction.{SameNumber}
 use Rattle.xc_model.specs.Parts.{WholeParts}
 use Rattle.xc_model.specs.Ratio.{Ratio, fraction_of, IsOver}
 use Rattle.xc_model.proofs.Integers.{ring}

@@ -1,10 +1,10 @@
 -- How far the first corner is worked out.
-use Rattle.std.specs.Prelude.{◌≡◌, ◌≢◌, ℕ, ◌+◌, ◌-◌, ◌<◌, Bool, List, Some, slice_get, take, length, if◌then◌else◌, nat_lt}
+use Rattle.std.specs.Prelude.{◌≡◌, ◌≢◌, ℕ, ◌-◌, ◌<◌, Bool, List, Some, slice_get, take, length, if◌then◌else◌, nat_lt}
 use Rattle.xc_corners.specs.Operations.{operation, Gives, IsSumOf, weights_of_range, entries_of, IsLowProduct, IsLowSum, StandsAtFirst}
 use Rattle.xc_corners.specs.declared.problem.Problem.{Problem}
 use Rattle.xc_frac.specs.Passes.{Passes}
 use Rattle.xc_frac.specs.declared.delta.Delta.{Delta}
-use Rattle.xc_frac.specs.declared.wide.Op.TheVariants.{Add, Mul}
+use Rattle.xc_frac.specs.declared.wide.Op.TheVariants.{Add}
 use Rattle.xc_frac.specs.declared.wide.Wide.{Wide}
 use Rattle.xc_model.specs.Ratio.{Ratio}
 use Rattle.xc_pivot.specs.Deltas.{of_part}

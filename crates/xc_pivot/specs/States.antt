@@ -1,5 +1,5 @@
 -- What the walk keeps, and how it stands for a corner.
-use Rattle.std.specs.Prelude.{◌≡◌, ◌≢◌, ◌⊎◌, ℕ, ◌+◌, ◌*◌, ◌<◌, ◌≤◌, Bool, true, false, List, length, Option, Some, None, slice_get, pos}
+use Rattle.std.specs.Prelude.{◌≡◌, ◌⊎◌, ℕ, ◌+◌, ◌*◌, ◌<◌, ◌≤◌, Bool, true, false, List, length, Option, Some, None, slice_get, pos}
 use Rattle.xc_corners.specs.Choices.{Leaves, Enters, IsFeasible, IsConflict}
 use Rattle.xc_corners.specs.Corners.{low_bound, high_bound, Corner, Factors, IsSolvedForm, value}
 use Rattle.xc_corners.specs.Operations.{IsFactor}

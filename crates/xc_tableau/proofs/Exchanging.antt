@@ -1,6 +1,6 @@
 -- The operations of an exchange: what they answer, and that each has one answer.
-use Rattle.std.proofs.Common.{◌≡◌, ◌≢◌, ℕ, ◌+◌, ◌*◌, ◌<◌, ◌≤◌, List, length, get_or, Some, None, Option, ◌⊎◌, inl, inr, refl, sym, ap, subst, ◌∙◌, arith, slice_get, Ok, Err, ℤ}
-use Rattle.std.specs.Prelude.{Result, IfOk, IfErr, OnOk, OnErr, unsigned_abs, slice_set}
+use Rattle.std.proofs.Common.{◌≡◌, ◌≢◌, ℕ, ◌+◌, ◌*◌, ◌<◌, ◌≤◌, List, length, get_or, Some, None, ◌⊎◌, inl, inr, refl, sym, subst, ◌∙◌, arith, slice_get, Ok, Err, ℤ}
+use Rattle.std.specs.Prelude.{Result, IfOk, IfErr, OnOk, OnErr, slice_set}
 use Rattle.std.proofs.lemmas.List.{get_or-set_same, get_or-set_other, length-set}
 use Rattle.std.proofs.lemmas.Option.{slice_get_within, get_or_from_slice_get, slice_get_read, slice_get_cases}
 use Rattle.xc_corners.specs.Operations.{operation, Gives, IsNegativeOf, IsOwnFactor, IsOtherFactor, IsProductFactor, StandsInExchange, own_divided, other_divided, own_times, other_times, other_added}
@@ -8,13 +8,13 @@ use Rattle.xc_frac.specs.Passes.{Passes}
 use Rattle.xc_frac.specs.declared.wide.Op.{Op}
 use Rattle.xc_frac.specs.declared.wide.Op.TheVariants.{Add, Mul, Div}
 use Rattle.xc_frac.specs.declared.wide.Wide.{Wide}
-use Rattle.xc_model.specs.Fraction.{Fraction, SameNumber, IsQuotient, product_of, neg_of}
+use Rattle.xc_model.specs.Fraction.{product_of, neg_of}
 use Rattle.xc_model.specs.Ratio.{Ratio, fraction_of, IsOver}
 use Rattle.xc_model.proofs.LowestTerms.{one_lowest}
 use Rattle.xc_model.proofs.Lowest.{product_fits, quotient_fits}
 use Rattle.xc_model.proofs.Numbers.{same-sym, same-trans, quotient_unique}
 use Rattle.xc_model.proofs.Over.{ratio, over_same}
-use Rattle.xc_tableau.specs.Exchanges.{PassesIn, IsEntering, IsLeaving, IsRest, IsMade, IsExchanged}
+use Rattle.xc_tableau.specs.Exchanges.{PassesIn, IsLeaving, IsRest, IsExchanged}
 use Rattle.xc_tableau.specs.Tables.{Table, Has}
 use Rattle.xc_tableau.proofs.Places.{place_below}
 

@@ -1,10 +1,10 @@
 -- One entry more of an exchange is written.
-use Rattle.std.proofs.Common.{◌≡◌, ◌≢◌, ℕ, ◌+◌, ◌*◌, ◌<◌, List, length, ◌⊎◌, inl, inr, refl, sym, ap, subst, ◌∙◌, arith}
+use Rattle.std.proofs.Common.{◌≡◌, ◌≢◌, ℕ, ◌+◌, ◌*◌, ◌<◌, List, length, ◌⊎◌, inl, inr, sym, ap, subst, ◌∙◌, arith}
 use Rattle.std.specs.Prelude.{slice_set}
 use Rattle.std.proofs.lemmas.Bool.{cases_eq}
 use Rattle.xc_model.specs.Ratio.{Ratio}
 use Rattle.xc_tableau.specs.Exchanges.{IsEntering, IsMade}
-use Rattle.xc_tableau.specs.Steps.{table, IsPivot, EnteringDone, RowDone, RowsKept, OthersDone}
+use Rattle.xc_tableau.specs.Steps.{table, EnteringDone, RowDone, RowsKept, OthersDone}
 use Rattle.xc_tableau.specs.Tables.{Has}
 use Rattle.xc_tableau.specs.declared.pivoting.Pivot.{Pivot}
 use Rattle.xc_tableau.proofs.Exchanging.{written_same, written_other}

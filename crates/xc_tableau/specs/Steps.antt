@@ -1,5 +1,5 @@
 -- How far an exchange is written into another table.
-use Rattle.std.specs.Prelude.{◌≡◌, ◌≢◌, ℕ, ◌<◌, ◌+◌, ◌*◌, pos, List, Some, length, slice_get}
+use Rattle.std.specs.Prelude.{◌≡◌, ◌≢◌, ℕ, ◌<◌, ◌*◌, pos, List, length}
 use Rattle.xc_model.specs.Ratio.{Ratio}
 use Rattle.xc_tableau.specs.Exchanges.{IsEntering, IsMade}
 use Rattle.xc_tableau.specs.Tables.{Table, Has}

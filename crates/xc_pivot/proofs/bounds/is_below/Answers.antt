@@ -1,4 +1,3 @@
-use Rattle.std.specs.declared.cmp.Ordering.TheVariants.{Less}
 use Rattle.xc_pivot.proofs.Beside.{below_less, below_other}
 use Rattle.xc_pivot.proofs.bounds.is_below.Goals as goal
 

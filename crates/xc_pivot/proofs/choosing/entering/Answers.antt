@@ -1,4 +1,4 @@
-use Rattle.std.proofs.Common.{◌≡◌, ◌≢◌, ◌⊎◌, inl, inr, sym, subst, arith, ⊎_elim, ℕ}
+use Rattle.std.proofs.Common.{◌≡◌, ◌≢◌, subst, arith, ⊎_elim, ℕ}
 use Rattle.std.proofs.lemmas.Bool.{cases_eq}
 use Rattle.xc_corners.specs.Choices.{CanEnter}
 use Rattle.xc_corners.specs.WholeNumbers.{whole}

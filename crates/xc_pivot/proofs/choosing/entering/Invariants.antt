@@ -1,4 +1,4 @@
-use Rattle.std.proofs.Common.{◌≡◌, ℕ, ◌<◌}
+use Rattle.std.proofs.Common.{ℕ, ◌<◌}
 use Rattle.xc_corners.specs.Choices.{CanEnter}
 use Rattle.xc_corners.specs.Corners.{Corner, Factors}
 use Rattle.xc_corners.specs.WholeNumbers.{whole}

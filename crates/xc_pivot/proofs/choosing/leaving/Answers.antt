@@ -1,4 +1,4 @@
-use Rattle.std.proofs.Common.{◌≡◌, ◌≢◌, ◌⊎◌, inl, inr, sym, subst, true, arith, ⊎_elim, ℕ}
+use Rattle.std.proofs.Common.{◌≡◌, ◌≢◌, sym, subst, true, arith, ⊎_elim, ℕ}
 use Rattle.std.proofs.lemmas.Bool.{cases_eq}
 use Rattle.xc_corners.specs.Corners.{IsWithin}
 use Rattle.xc_corners.specs.WholeNumbers.{whole}

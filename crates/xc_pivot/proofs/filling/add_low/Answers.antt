@@ -2,7 +2,7 @@ use Rattle.std.proofs.Common.{refl, sym, subst, arith}
 use Rattle.xc_frac.specs.Passes.{Passes}
 use Rattle.xc_frac.specs.declared.wide.Wide.{Wide}
 use Rattle.xc_corners.specs.Operations.{low_times, low_added}
-use Rattle.xc_frac.specs.declared.wide.Op.TheVariants.{Add, Mul}
+use Rattle.xc_frac.specs.declared.wide.Op.TheVariants.{Add}
 use Rattle.xc_pivot.specs.Deltas.{of_part}
 use Rattle.xc_pivot.specs.Firsts.{PassesFirst, IsLowAdded}
 use Rattle.xc_pivot.proofs.Both.{if_each, if_one}

@@ -1,8 +1,5 @@
-use Rattle.std.proofs.Common.{◌≡◌, ◌≢◌, ℕ, ◌<◌, Bool, true, false, List, length, ◌⊎◌, ⊎_elim, refl, sym, ap, subst, arith}
-use Rattle.std.proofs.lemmas.Bool.{cases_eq}
-use Rattle.xc_corners.specs.Operations.{IsLowSum, IsLowProduct, IsZero}
-use Rattle.xc_frac.specs.Passes.{Passes}
-use Rattle.xc_frac.specs.declared.wide.Op.TheVariants.{Add}
+use Rattle.std.proofs.Common.{◌≡◌, ℕ, Bool, List, length, ap, subst, arith}
+use Rattle.xc_corners.specs.Operations.{IsLowSum}
 use Rattle.xc_interval.specs.declared.interval.Interval.{Interval}
 use Rattle.xc_model.specs.Ratio.{Ratio}
 use Rattle.xc_pivot.specs.Deltas.{of_part}

@@ -1,11 +1,9 @@
 use Rattle.std.proofs.Common.{◌≡◌, ℕ, List, Some, slice_get, length, sym, ap, subst, ◌∙◌, arith}
 use Rattle.std.proofs.lemmas.List.{length-set}
-use Rattle.xc_corners.specs.Corners.{variables}
 use Rattle.xc_corners.specs.WholeNumbers.{whole}
 use Rattle.xc_frac.specs.declared.delta.Delta.{Delta}
-use Rattle.xc_frac.specs.declared.wide.Wide.{Wide}
 use Rattle.xc_model.specs.Ratio.{Ratio}
-use Rattle.xc_tableau.specs.Exchanges.{IsExchanged, PassesIn}
+use Rattle.xc_tableau.specs.Exchanges.{PassesIn}
 use Rattle.xc_tableau.specs.Tables.{Table, IsFilled}
 use Rattle.xc_tableau.proofs.Exchanging.{exchanged_same}
 use Rattle.xc_pivot.specs.Steps.{AreMoved, replaced}

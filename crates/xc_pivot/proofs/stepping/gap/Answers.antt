@@ -1,4 +1,4 @@
-use Rattle.std.proofs.Common.{inr, refl, subst, sym, arith}
+use Rattle.std.proofs.Common.{inr, refl, subst, arith}
 use Rattle.xc_corners.specs.Operations.{gap_taken}
 use Rattle.xc_corners.specs.WholeNumbers.{whole}
 use Rattle.xc_frac.specs.Passes.{Passes}

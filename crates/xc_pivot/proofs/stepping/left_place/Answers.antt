@@ -1,9 +1,8 @@
-use Rattle.std.proofs.Common.{◌≡◌, true, false, refl, sym, subst, Bool, ◌&&◌, not}
+use Rattle.std.proofs.Common.{◌≡◌, refl, sym, subst, Bool, ◌&&◌, not}
 use Rattle.xc_corners.specs.Choices.{is_same_pair}
 use Rattle.xc_corners.specs.Corners.{low_bound, high_bound}
 use Rattle.xc_corners.specs.WholeNumbers.{whole}
 use Rattle.xc_pivot.specs.Steps.{left_place}
-use Rattle.xc_pivot.specs.declared.types.Place.{Place}
 use Rattle.xc_pivot.specs.declared.types.Place.TheVariants.{Low, High}
 use Rattle.xc_pivot.proofs.Beside.{free_same, fixed_same}
 use Rattle.xc_pivot.proofs.stepping.left_place.Goals as goal

@@ -1,4 +1,4 @@
-use Rattle.std.proofs.Common.{◌≡◌, ◌≢◌, ℕ, suc, ◌+◌, ◌<◌, ◌≤◌, pos, refl, sym, ap, subst, arith, length, ◌⊎◌, inl, inr}
+use Rattle.std.proofs.Common.{◌≡◌, ℕ, suc, ◌+◌, ◌<◌, ◌≤◌, refl, sym, subst, arith, length, ◌⊎◌, inl, inr}
 use Rattle.std.proofs.lemmas.Bool.{cases_lt}
 use Rattle.xc_corners.specs.Choices.{first, exchanged, IsReachedBy}
 use Rattle.xc_corners.specs.Corners.{Corner}
@@ -9,11 +9,8 @@ use Rattle.xc_corners.specs.WholeNumbers.{whole}
 use Rattle.xc_corners.specs.declared.problem.Problem.{Problem}
 use Rattle.xc_corners.proofs.Runs.{one_more, one_run}
 use Rattle.xc_frac.specs.declared.wide.Wide.{Wide}
-use Rattle.xc_model.specs.Ratio.{Ratio}
 use Rattle.xc_model.proofs.Over.{sign_over}
-use Rattle.xc_tableau.specs.Tables.{Has}
 use Rattle.xc_pivot.specs.States.{ArePlaces}
-use Rattle.xc_pivot.specs.declared.types.Place.{Place}
 use Rattle.xc_pivot.proofs.Ended.{exchange_of, passes_at, none_at, nothing_at_all, is_last}
 use Rattle.xc_pivot.proofs.Exchanges.{helps_some}
 use Rattle.xc_pivot.proofs.walking.run.Goals as goal

@@ -1,4 +1,4 @@
-use Rattle.std.proofs.Common.{◌≡◌, ◌-◌, ◌^◌, length}
+use Rattle.std.proofs.Common.{◌-◌, ◌^◌}
 use Rattle.xc_corners.specs.Corners.{variables}
 use Rattle.xc_corners.specs.WholeNumbers.{whole}
 use Rattle.xc_pivot.specs.States.{IsShaped}

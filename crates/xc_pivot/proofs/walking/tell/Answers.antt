@@ -1,4 +1,4 @@
-use Rattle.std.proofs.Common.{◌≡◌, refl, sym, ap, subst, List, ℕ, ◌+◌, arith}
+use Rattle.std.proofs.Common.{◌≡◌, sym, subst, List, ℕ, ◌+◌, arith}
 use Rattle.xc_corners.specs.Corners.{corner_of}
 use Rattle.xc_pivot.specs.States.{is_row, is_high}
 use Rattle.xc_pivot.specs.Walks.{IsListOf}

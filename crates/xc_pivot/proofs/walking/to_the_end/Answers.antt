@@ -1,4 +1,4 @@
-use Rattle.std.proofs.Common.{◌≡◌, refl, sym, ap, subst, length}
+use Rattle.std.proofs.Common.{refl, sym, subst, length}
 use Rattle.xc_corners.specs.Choices.{first}
 use Rattle.xc_corners.specs.Operations.{at_first}
 use Rattle.xc_corners.specs.WholeNumbers.{whole}

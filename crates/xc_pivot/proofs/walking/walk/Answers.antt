@@ -8,7 +8,6 @@ use Rattle.xc_frac.specs.declared.wide.Wide.{Wide}
 use Rattle.xc_pivot.specs.States.{ArePlaces}
 use Rattle.xc_pivot.specs.Walks.{TellsCorner, IsLastCorner, IsTooWideAt, NothingPasses, IfLast, IfTooWide, EndsAtLast, EndsTooWide}
 use Rattle.xc_pivot.specs.declared.types.Place.{Place}
-use Rattle.xc_pivot.specs.declared.types.Walk.{Walk}
 use Rattle.xc_pivot.proofs.walking.walk.Goals as goal
 use Rattle.xc_pivot.proofs.walking.walk.Goals.{in-None, in-Some}
 

@@ -1,4 +1,4 @@
-use Rattle.std.proofs.Common.{◌≡◌, refl, arith}
+use Rattle.std.proofs.Common.{refl, arith}
 use Rattle.xc_corners.specs.Operations.{own_divided, other_divided}
 use Rattle.xc_frac.specs.declared.wide.Op.TheVariants.{Div}
 use Rattle.xc_tableau.specs.Exchanges.{PassesIn, IsEntering}

@@ -1,4 +1,4 @@
-use Rattle.std.proofs.Common.{◌≡◌, ◌≢◌, refl, arith}
+use Rattle.std.proofs.Common.{refl}
 use Rattle.xc_corners.specs.Operations.{other_added}
 use Rattle.xc_frac.specs.declared.wide.Op.TheVariants.{Add}
 use Rattle.xc_tableau.specs.Exchanges.{PassesIn, IsMade}

@@ -1,4 +1,4 @@
-use Rattle.std.proofs.Common.{◌≡◌, ◌≢◌, refl, inl, inr, ⊎_elim}
+use Rattle.std.proofs.Common.{◌≡◌, ◌≢◌, refl, ⊎_elim}
 use Rattle.std.proofs.lemmas.Bool.{cases_eq}
 use Rattle.xc_corners.specs.Operations.{IsProductFactor, own_times, other_times}
 use Rattle.xc_frac.specs.declared.wide.Op.TheVariants.{Mul}

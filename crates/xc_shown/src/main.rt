@@ -12,6 +12,7 @@ mod runs;
 mod schemas;
 mod taxonomies;
 mod trees;
+mod walks;
 
 use cases::Part;
 use std::alloc::{AllocError, Global};
@@ -37,6 +38,7 @@ fn show(alloc: Global, subject: &str, parts: &[Part]) -> Result<String, AllocErr
         "linkbases" => linkbases::show(alloc, parts),
         "reports" => reports::show(alloc, parts),
         "runs" => runs::show(alloc, parts),
+        "walks" => walks::show(alloc, parts),
         _ => Ok(String::new(alloc)),
     }
 }

@@ -58,7 +58,7 @@ module _ (one : HasOneLowest) where
   next_once (Ok x) t a b h k = with_once x t a b h k
   next_once (Err w) t a b h k = h ∙ sym k
 
-  sum_once : (ts : List Term) (r : Result Ratio Wide) → IsOnce (IsSum r ts)
+  pub sum_once : (ts : List Term) (r : Result Ratio Wide) → IsOnce (IsSum r ts)
   sum_once [] r a b h k = sym h ∙ k
   sum_once (t ∷ ts) r a b h k = sum_once ts k.0 a b (subst (λ n. IsSum n ts a) (next_once r t h.0 k.0 h.1 k.1) h.2) k.2
 

@@ -169,3 +169,28 @@ proof_accepted s c judgement.Accepted h k = inl refl
 proof_accepted s c (judgement.Misses what) h k = absurd (never_met s c k (Misses what) tt h)
 proof_accepted s c (judgement.WideFact f) h k = absurd (never_met s c k (WideFact f) tt h)
 proof_accepted s c (judgement.TooWide what w) h k = inr tt
+
+-- a proof is accepted where no sum passes
+module _ (s : Constraints) (values : List Ratio) (count : length values ≡ s.points) (solves : Solves s (assigned values)) where
+  pub solved_accepted : ((i : ℕ) → i < length s.equations → (x : Ratio) × IsSumOf (equation_terms values (equation_at s.equations i).entries) (Ok x)) → IsJudgement s (Feasible values) judgement.Accepted
+  solved_accepted sums = (
+    sym (counted s values count solves),
+    (
+      λ p h i l. met (slice_index (facts_of s.bounds p) i) p (range_at s.bounds (slice_index (facts_of s.bounds p) i)) (inside s values count solves p i l),
+      λ i h. record { end = Ok (sums i h).0; sum = (sums i h).1; is_met = balanced s values count solves i h (sums i h).0 (sums i h).1 },
+    ),
+  )
+    where
+      met : (k p : ℕ) (range : Option (Interval Ratio)) → IsSomeAnd range (λ interval. HasNumber (numbers_of interval) (assigned values p)) → IsMetInside k values p range None
+      met k p None some = absurd some
+      met k p (Some interval) has = has
+
+module _ (s : Constraints) (r : Multipliers) (c : IsContradiction s r) where
+  pub contradiction_accepted : ((p : ℕ) → p < s.points → (x : Ratio) × IsSumOf (coefficient_terms s r p) (Ok x)) → ((x : Ratio) × IsSumOf (constant_terms s r) (Ok x)) → IsJudgement s (Infeasible r) judgement.Accepted
+  contradiction_accepted points constant = (
+    sym (lines_fine s r c),
+    (
+      λ p h. record { end = Ok (points p h).0; sum = (points p h).1; is_met = cancelled s r c p h (points p h).0 (points p h).1 },
+      record { end = Ok constant.0; sum = constant.1; is_met = short s r c constant.0 constant.1 },
+    ),
+  )

@@ -1,10 +1,13 @@
 -- What follows from the definitions for all systems and certificates.
-use Rattle.std.specs.Prelude.{◌≡◌}
+use Rattle.std.specs.Prelude.{◌≡◌, List, Result}
+use Rattle.xc_frac.specs.declared.wide.Wide.{Wide}
+use Rattle.xc_model.specs.Ratio.{Ratio}
 use Rattle.xc_system.specs.Kept.{IsRefutation}
 use Rattle.xc_system.specs.Systems.{Constraints, IsSystem}
 use Rattle.xc_system.specs.declared.types.Certificate.{Certificate}
 use Rattle.xc_system.specs.declared.types.Certificate.TheVariants.{Feasible, Infeasible}
 use Rattle.xc_verify.specs.Judgements.{IsJudgement, Proves}
+use Rattle.xc_verify.specs.Sums.{Term, IsSumOf}
 use Rattle.xc_verify.specs.declared.types.Judgement.{Judgement}
 use Rattle.xc_verify.specs.declared.types.Judgement.TheVariants.{Accepted}
 
@@ -20,3 +23,7 @@ IsKept (Infeasible r) = IsRefutation r
 -- a certificate that is accepted proves what it claims
 abbrev pub AcceptanceProves : Type 0
 AcceptanceProves = (s : Constraints) (c : Certificate) → IsSystem s → IsKept c → IsJudgement s c Accepted → Proves s c
+
+-- terms have one sum
+abbrev pub HasOneSum : Type 0
+HasOneSum = (ts : List Term) (a b : Result Ratio Wide) → IsSumOf ts a → IsSumOf ts b → a ≡ b

@@ -81,9 +81,16 @@ fn at_point(point: u32, sums: &[Frac], stops: &[Option<Wide>]) -> Option<Objecti
 fn at_constant(system: &System, refutation: &Refutation) -> Option<Objection>
     ensures { IsMetIn Constant (FallsShort system.now refutation.now) (constant_terms system.now refutation.now) result }
 {
+    unless_short(system, refutation, constant(system, refutation))
+}
+
+/// The constant of a refutation: the value of each listed end times its multiplier, taken away for a low end and added for
+/// a high one, in order; or the first operation that passes 128 bits.
+pub fn constant(system: &System, refutation: &Refutation) -> Result<Frac, Wide>
+    ensures { IsSumOf (constant_terms system.now refutation.now) result }
+{
     let lows = with_values(Side::Low, Ok(zero()), refutation.lows(), system.bounds());
-    let sum = with_values(Side::High, lows, refutation.highs(), system.bounds());
-    unless_short(system, refutation, sum)
+    with_values(Side::High, lows, refutation.highs(), system.bounds())
 }
 
 // What is met at the end of the constant.

@@ -1,6 +1,6 @@
 //! What follows from the definitions for all systems and certificates. The functions do nothing: code calls one where
 //! its proof needs the clauses.
-ghost use Rattle.xc_verify.specs.Laws.{AcceptanceProves, HasOneJudgement};
+ghost use Rattle.xc_verify.specs.Laws.{AcceptanceProves, HasOneJudgement, HasOneSum};
 
 use xc_frac::laws::lowest_terms;
 use xc_system::laws::contradictions_exclude;
@@ -17,4 +17,11 @@ pub fn acceptance_proves()
     ensures { AcceptanceProves }
 {
     contradictions_exclude();
+}
+
+/// Terms have one sum: its end, or the first operation that passes.
+pub fn one_sum()
+    ensures { HasOneSum }
+{
+    lowest_terms();
 }

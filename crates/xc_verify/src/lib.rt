@@ -11,5 +11,6 @@ mod scratch;
 mod sums;
 mod types;
 
+pub use infeasible::constant;
 pub use judging::verify;
 pub use types::{Judgement, Objection, What};

@@ -1,0 +1,189 @@
+-- Numbers that solve the ranges and the rows of a component are values of it.
+use Rattle.std.proofs.Common.{◌≡◌, ◌≢◌, ◌⊎◌, ℕ, zero, suc, ◌*◌, ◌<◌, ◌≤◌, Bool, true, false, Option, Some, None, List, [], ◌∷◌, ◌++◌, length, map, get_or, ℤ, pos, negsuc, neg_ℤ, ◌*ℤ◌, inl, inr, refl, sym, ap, subst, ◌∙◌, arith}
+use Rattle.std.proofs.lemmas.Bool.{eq-eqb, ne_eqb}
+use Rattle.std.proofs.lemmas.Int.{ints}
+use Rattle.std.proofs.lemmas.List.{get_or-map, length-map}
+use Rattle.std.proofs.lemmas.Option.{slice_get_cases, slice_get-get_or}
+use Rattle.std.specs.Option.{option_map_or}
+use Rattle.std.specs.Prelude.{IsSomeAnd, slice_get, if◌then◌else◌}
+use Rattle.xc_forest.specs.Forests.{row_at}
+use Rattle.xc_interval.specs.Ends.{end_at}
+use Rattle.xc_interval.specs.Intervals.{numbers_of, HasNumber, IsBefore, IsPast}
+use Rattle.xc_interval.specs.Laws.{IsTightness}
+use Rattle.xc_interval.specs.Ranges.{AllKnown}
+use Rattle.xc_interval.specs.Tightest.{IsTighterHigh, IsTighterLow}
+use Rattle.xc_interval.specs.declared.ends.End.TheVariants.{Closed}
+use Rattle.xc_interval.specs.declared.interval.Interval.{Interval}
+use Rattle.xc_interval.proofs.Numbers.{number_dense}
+use Rattle.xc_interval.proofs.Tighter.{low_tightness, high_tightness}
+use Rattle.xc_joint.specs.Answers.{placed, AreValuesOf}
+use Rattle.xc_joint.specs.Solved.{interval_at, number_at, number_total, signed_number, NumbersSolve}
+use Rattle.xc_joint.specs.Steps.OneForest.{AreEach, IsBounded, IsRowOf, IsSign, IsSignedPlace}
+use Rattle.xc_joint.proofs.Each.{each_at, each_length}
+use Rattle.xc_joint.proofs.Exact.{exact_whole}
+use Rattle.xc_joint.proofs.Searched.{rises}
+use Rattle.xc_joint.proofs.Sizes.{place_of}
+use Rattle.xc_model.specs.Fraction.{Fraction, IsBelow, SameNumber, whole, neg_of, product_of}
+use Rattle.xc_model.specs.Ratio.{Ratio, fraction_of}
+use Rattle.xc_model.proofs.Numbers.{same-sum, same-trans}
+use Rattle.xc_system.specs.Components.{IsComponent}
+use Rattle.xc_system.specs.Members.{IsIn}
+use Rattle.xc_system.specs.Solutions.{Admits, Holds, IsZero, weighed}
+use Rattle.xc_system.specs.Spots.{HasTighter, IsFirstTightest, high_end, low_end}
+use Rattle.xc_system.specs.Systems.{Constraints, equation_at, facts_of, range_at}
+use Rattle.xc_system.specs.declared.types.Bound.{Bound}
+use Rattle.xc_system.specs.declared.types.Component.{Component}
+use Rattle.xc_system.specs.declared.types.Entry.{Entry}
+use Rattle.xc_system.specs.declared.types.Equation.{Equation}
+use Rattle.xc_system.specs.declared.types.Side.TheVariants.{High, Low}
+use Rattle.xc_system.proofs.Places.{places_in}
+
+-- ---- the value of a point
+
+abbrev Rise : List ℕ → Type 0
+Rise xs = (i j : ℕ) → i < j → j < length xs → get_or xs i 0 < get_or xs j 0
+
+pub placed_at : (points : List ℕ) (xs : List Ratio) (j : ℕ) → Rise points → j < length points → length xs ≡ length points → placed points xs (get_or points j 0) ≡ number_at xs j
+placed_at [] xs j up l long = absurd (omega (arith, l))
+placed_at (q ∷ qs) [] j up l long = absurd (omega (arith, long))
+placed_at (q ∷ qs) (x ∷ xs) zero up l long = ap (λ b. if b then fraction_of x else placed qs xs q) (eq-eqb q q refl)
+placed_at (q ∷ qs) (x ∷ xs) (suc j) up l long =
+    let p = get_or qs j 0 in
+    let above : q < p = up 0 (suc j) (omega arith) l in
+    let apart : p ≢ q = λ e. omega (arith, above, e) in
+    ap (λ b. if b then fraction_of x else placed qs xs p) (ne_eqb p q apart) ∙ placed_at qs xs j (λ i k m n. up (suc i) (suc k) (omega (arith, m)) (omega (arith, n))) (omega (arith, l)) (omega (arith, long))
+
+-- ---- equations
+
+one_times : (a : ℤ) → pos 1 *ℤ a ≡ a
+one_times a = omega (arith, ints)
+
+minus_times : (a : ℤ) → negsuc 0 *ℤ a ≡ neg_ℤ a
+minus_times a = omega (arith, ints)
+
+pub signed_product : (b : Bool) (w : Ratio) (y : Fraction) → IsSign b w → SameNumber (product_of (fraction_of w) y) (signed_number b y)
+signed_product false w y h =
+    let is = exact_whole w (pos 1) (record { cross = let n = h.0 in let d = h.1 in omega (arith, ints, n, d) }) in
+    let e : 1 * y.den ≡ y.den = omega arith in
+    subst (λ f. SameNumber (product_of f y) y) (sym is) (record { cross = ap (λ a. a *ℤ pos y.den) (one_times y.num) ∙ ap (λ (d : ℕ). y.num *ℤ pos d) (sym e) })
+signed_product true w y h =
+    let is = exact_whole w (negsuc 0) (record { cross = let n = h.0 in let d = h.1 in omega (arith, ints, n, d) }) in
+    let e : 1 * y.den ≡ y.den = omega arith in
+    subst (λ f. SameNumber (product_of f y) (neg_of y)) (sym is) (record { cross = ap (λ a. a *ℤ pos y.den) (minus_times y.num) ∙ ap (λ (d : ℕ). neg_ℤ y.num *ℤ pos d) (sym e) })
+
+module _ (points : List ℕ) (xs : List Ratio) (up : Rise points) (long : length xs ≡ length points) where
+  weighed_row : (entries : List Entry) (row : List (ℕ × Bool)) → AreEach (IsSignedPlace points) entries row → SameNumber (weighed entries (placed points xs)) (number_total row (number_at xs))
+  weighed_row [] [] h = record { cross = refl }
+  weighed_row [] (r ∷ row) h = absurd h
+  weighed_row (entry ∷ entries) [] h = absurd h
+  weighed_row (entry ∷ entries) (r ∷ row) h =
+      let value : placed points xs entry.point ≡ number_at xs r.0 = ap (placed points xs) (sym h.0.there) ∙ placed_at points xs r.0 up h.0.inside long in
+      let one : SameNumber (product_of (fraction_of entry.weight) (placed points xs entry.point)) (signed_number r.1 (number_at xs r.0)) = subst (λ y. SameNumber (product_of (fraction_of entry.weight) y) (signed_number r.1 (number_at xs r.0))) (sym value) (signed_product r.1 entry.weight (number_at xs r.0) h.0.sign) in
+      same-sum _ _ _ _ one (weighed_row entries row h.1)
+
+-- ---- facts
+
+in_either : (x : ℕ) (xs ys : List ℕ) → IsIn x (xs ++ ys) → IsIn x xs ⊎ IsIn x ys
+in_either x [] ys h = inr h
+in_either x (y ∷ xs) ys (inl e) = inl (inl e)
+in_either x (y ∷ xs) ys (inr h) = elim (in_either x xs ys h) [ inl a ↦ inl (inr a) | inr b ↦ inr b ]
+
+module _ (bounds : List Bound) (facts : List ℕ) (x : Fraction) where
+  -- what is past the tightest low end is past all
+  past_all : IsTightness (IsTighterLow IsBelow SameNumber) (IsPast IsBelow SameNumber) → (k : ℕ) → IsFirstTightest (HasTighter Low bounds) facts k → IsPast IsBelow SameNumber (low_end bounds k) x → (j : ℕ) → IsIn j facts → IsPast IsBelow SameNumber (low_end bounds j) x
+  past_all T k h past j listed = go (in_either j h.front (k ∷ h.back) (subst (λ (l : List ℕ). IsIn j l) h.there listed))
+    where
+      go : IsIn j h.front ⊎ ((j ≡ k) ⊎ IsIn j h.back) → IsPast IsBelow SameNumber (low_end bounds j) x
+      go (inl a) = T.lets (low_end bounds k) (low_end bounds j) (h.before j a) x past
+      go (inr (inl e)) = subst (λ (i : ℕ). IsPast IsBelow SameNumber (low_end bounds i) x) (sym e) past
+      go (inr (inr b)) = T.keeps (low_end bounds j) (low_end bounds k) (h.behind j b) x past
+
+  before_all : IsTightness (IsTighterHigh IsBelow SameNumber) (IsBefore IsBelow SameNumber) → (k : ℕ) → IsFirstTightest (HasTighter High bounds) facts k → IsBefore IsBelow SameNumber (high_end bounds k) x → (j : ℕ) → IsIn j facts → IsBefore IsBelow SameNumber (high_end bounds j) x
+  before_all T k h past j listed = go (in_either j h.front (k ∷ h.back) (subst (λ (l : List ℕ). IsIn j l) h.there listed))
+    where
+      go : IsIn j h.front ⊎ ((j ≡ k) ⊎ IsIn j h.back) → IsBefore IsBelow SameNumber (high_end bounds j) x
+      go (inl a) = T.lets (high_end bounds k) (high_end bounds j) (h.before j a) x past
+      go (inr (inl e)) = subst (λ (i : ℕ). IsBefore IsBelow SameNumber (high_end bounds i) x) (sym e) past
+      go (inr (inr b)) = T.keeps (high_end bounds j) (high_end bounds k) (h.behind j b) x past
+
+-- a fact that is known and between whose ends the number lies
+known_has : (bounds : List Bound) (facts : List ℕ) (k : ℕ) (x : Fraction) → AllKnown (map (range_at bounds) facts) → IsIn k facts → IsPast IsBelow SameNumber (low_end bounds k) x → IsBefore IsBelow SameNumber (high_end bounds k) x → IsSomeAnd (range_at bounds k) (λ interval. HasNumber (numbers_of interval) x)
+known_has bounds [] k x known listed past before = absurd listed
+known_has bounds (f ∷ fs) k x known (inl same) past before = subst (λ (j : ℕ). IsSomeAnd (range_at bounds j) (λ interval. HasNumber (numbers_of interval) x)) (sym same) (go (range_at bounds f) known (subst (λ (j : ℕ). IsPast IsBelow SameNumber (low_end bounds j) x) same past) (subst (λ (j : ℕ). IsBefore IsBelow SameNumber (high_end bounds j) x) same before))
+  where
+    go : (o : Option (Interval Ratio)) → AllKnown (o ∷ map (range_at bounds) fs) → IsPast IsBelow SameNumber (option_map_or (λ interval. end_at (λ y. fraction_of y) interval.low) o (Closed (whole (pos 0)))) x → IsBefore IsBelow SameNumber (option_map_or (λ interval. end_at (λ y. fraction_of y) interval.high) o (Closed (whole (pos 0)))) x → IsSomeAnd o (λ interval. HasNumber (numbers_of interval) x)
+    go None a b c = absurd a
+    go (Some i) a b c = record { low = b; high = c }
+known_has bounds (f ∷ fs) k x known (inr listed) past before = known_has bounds fs k x (rest (range_at bounds f) known) listed past before
+  where
+    rest : (o : Option (Interval Ratio)) → AllKnown (o ∷ map (range_at bounds) fs) → AllKnown (map (range_at bounds) fs)
+    rest None a = absurd a
+    rest (Some i) a = a
+
+-- a number between the tightest ends lies in the interval of each fact
+pub all_have : (s : Constraints) (p : ℕ) (range : Interval Ratio) → IsBounded s p range → (x : Fraction) → HasNumber (numbers_of range) x → (k : ℕ) → IsIn k (facts_of s.bounds p) → IsSomeAnd (range_at s.bounds k) (λ interval. HasNumber (numbers_of interval) x)
+all_have s p range b x lies k listed =
+    let facts = facts_of s.bounds p in
+    let low_is : low_end s.bounds b.span.low ≡ end_at (λ y. fraction_of y) range.low = ap (λ o. option_map_or (λ interval. end_at (λ y. fraction_of y) interval.low) o (Closed (whole (pos 0)))) b.of.low_known ∙ ap (λ e. end_at (λ y. fraction_of y) e) (sym b.of.low_is) in
+    let high_is : high_end s.bounds b.span.high ≡ end_at (λ y. fraction_of y) range.high = ap (λ o. option_map_or (λ interval. end_at (λ y. fraction_of y) interval.high) o (Closed (whole (pos 0)))) b.of.high_known ∙ ap (λ e. end_at (λ y. fraction_of y) e) (sym b.of.high_is) in
+    let past = subst (λ e. IsPast IsBelow SameNumber e x) (sym low_is) lies.low in
+    let before = subst (λ e. IsBefore IsBelow SameNumber e x) (sym high_is) lies.high in
+    known_has s.bounds facts k x b.is.known listed
+    (past_all s.bounds facts x (low_tightness IsBelow SameNumber number_dense) b.span.low b.is.low past k listed)
+    (before_all s.bounds facts x (high_tightness IsBelow SameNumber number_dense) b.span.high b.is.high before k listed)
+
+-- ---- the component
+
+bounded_at : (s : Constraints) (points : List ℕ) (ranges : List (Interval Ratio)) (j : ℕ) → AreEach (IsBounded s) points ranges → j < length points → (range : Interval Ratio) × IsBounded s (get_or points j 0) range × (interval_at ranges j ≡ numbers_of range)
+bounded_at s [] ranges j h l = absurd (omega (arith, l))
+bounded_at s (q ∷ qs) [] j h l = absurd h
+bounded_at s (q ∷ qs) (r ∷ rs) zero h l = (r, h.0, refl)
+bounded_at s (q ∷ qs) (r ∷ rs) (suc j) h l = bounded_at s qs rs j h.1 (omega (arith, l))
+
+module _ (s : Constraints) (c : Component) (is : IsComponent s c) (ranges : List (Interval Ratio)) (rows : List (List (ℕ × Bool))) (bounded : AreEach (IsBounded s) c.points ranges) (rows_are : AreEach (IsRowOf s c.points) c.equations rows) (xs : List Ratio) (solve : NumbersSolve rows ranges xs) where
+  up : Rise c.points
+  up = rises c.points is.points_ascend
+
+  long : length xs ≡ length c.points
+  long = solve.each ∙ each_length (IsBounded s) c.points ranges bounded
+
+  admitted : (k : ℕ) (bound : Bound) → slice_get s.bounds k ≡ Some bound → IsIn bound.point c.points → Admits bound (placed c.points xs bound.point)
+  admitted k bound there inside = go (slice_get_cases s.bounds k).1
+    where
+      go : ((b : Bound) × (k < length s.bounds) × (slice_get s.bounds k ≡ Some b) × (get_or s.bounds k b ≡ b)) ⊎ ((length s.bounds ≤ k) × (slice_get s.bounds k ≡ None)) → Admits bound (placed c.points xs bound.point)
+      go (inl (b, l, found, at)) =
+          let same : b ≡ bound = let e : Some b ≡ Some bound = sym found ∙ there in cc in
+          let place = place_of bound.point c.points inside in
+          let j = place.0 in
+          let r = bounded_at s c.points ranges j bounded place.1 in
+          let lies : HasNumber (numbers_of r.0) (number_at xs j) = subst (λ i. HasNumber i (number_at xs j)) r.2 (solve.within j (let many = each_length (IsBounded s) c.points ranges bounded in let m = place.1 in omega (arith, many, m))) in
+          let owner : get_or (map (λ (x : Bound). x.point) s.bounds) k 0 ≡ get_or c.points j 0 = get_or-map (λ (x : Bound). x.point) s.bounds k b 0 l ∙ ap (λ (x : Bound). x.point) at ∙ ap (λ (x : Bound). x.point) same ∙ sym place.2 in
+          let listed : IsIn k (facts_of s.bounds (get_or c.points j 0)) = places_in (map (λ x. x.point) s.bounds) (get_or c.points j 0) k (let e = length-map s.bounds (λ (x : Bound). x.point) in omega (arith, e, l)) owner in
+          let has = all_have s (get_or c.points j 0) r.0 r.1 (number_at xs j) lies k listed in
+          let value : placed c.points xs bound.point ≡ number_at xs j = ap (placed c.points xs) (sym place.2) ∙ placed_at c.points xs j up place.1 long in
+          let range : range_at s.bounds k ≡ bound.range = ap (λ (o : Option Bound). option_map_or (λ x. x.range) o None) there in
+          subst (λ y. IsSomeAnd bound.range (λ interval. HasNumber (numbers_of interval) y)) (sym value) (subst (λ o. IsSomeAnd o (λ interval. HasNumber (numbers_of interval) (number_at xs j))) range has)
+      go (inr (past, none)) = absurd (let e : None ≡ Some bound = sym none ∙ there in cc)
+
+  met : (i : ℕ) (equation : Equation) → slice_get s.equations i ≡ Some equation → IsIn i c.equations → Holds equation (placed c.points xs)
+  met i equation there inside = go (slice_get_cases s.equations i).1
+    where
+      go : ((b : Equation) × (i < length s.equations) × (slice_get s.equations i ≡ Some b) × (get_or s.equations i b ≡ b)) ⊎ ((length s.equations ≤ i) × (slice_get s.equations i ≡ None)) → Holds equation (placed c.points xs)
+      go (inl (b, l, found, at)) =
+          let place = place_of i c.equations inside in
+          let j = place.0 in
+          let m = place.1 in
+          let many = each_length (IsRowOf s c.points) c.equations rows rows_are in
+          let row = each_at (IsRowOf s c.points) c.equations rows j 0 [] rows_are place.1 in
+          let here : AreEach (IsSignedPlace c.points) (equation_at s.equations i).entries (row_at rows j) = subst (λ (n : ℕ). AreEach (IsSignedPlace c.points) (equation_at s.equations n).entries (row_at rows j)) place.2 row in
+          let zero = same-trans _ _ _ (weighed_row c.points xs up long (equation_at s.equations i).entries (row_at rows j) here) (solve.met j (omega (arith, many, m))) in
+          let is_zero : IsZero (weighed (equation_at s.equations i).entries (placed c.points xs)) = let k = zero.cross in omega (arith, ints, k) in
+          let known : equation_at s.equations i ≡ equation = equal i l there in
+          subst (λ (e : Equation). IsZero (weighed e.entries (placed c.points xs))) known is_zero
+        where
+          equal : (i : ℕ) → i < length s.equations → slice_get s.equations i ≡ Some equation → equation_at s.equations i ≡ equation
+          equal i l there = let e : Some (equation_at s.equations i) ≡ Some equation = sym (slice_get-get_or s.equations i (record { entries = [] }) l) ∙ there in cc
+      go (inr (past, none)) = absurd (let e : None ≡ Some equation = sym none ∙ there in cc)
+
+  pub are_values : AreValuesOf s c xs
+  are_values = record { each = long; solve = record { admitted = admitted; met = met } }

@@ -1,0 +1,5 @@
+use Rattle.xc_joint.proofs.PartValues.{are_values}
+use Rattle.xc_joint.proofs.laws.numbers_are_values.Goals as goal
+
+pub returns : goal.returns
+returns c = are_values

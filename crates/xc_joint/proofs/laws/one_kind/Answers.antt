@@ -1,0 +1,5 @@
+use Rattle.xc_joint.proofs.OneKind.{one_kind}
+use Rattle.xc_joint.proofs.laws.one_kind.Goals as goal
+
+pub returns : goal.returns
+returns c = one_kind c.contradictions_exclude.ensures.listed c.contradictions_exclude.ensures.solutions c.contradictions_exclude.ensures.solving c.components_decide.ensures.contradiction

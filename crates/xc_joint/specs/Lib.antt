@@ -1,0 +1,9 @@
+pub mod Answers
+pub mod Causes
+pub mod Kinds
+pub mod Laws
+pub mod PointRanges
+pub mod Small
+pub mod Solved
+pub mod Steps
+pub mod Widths

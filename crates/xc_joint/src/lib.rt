@@ -1,0 +1,26 @@
+//! The joint question: whether one value for each data point satisfies all facts and all equations.
+#![tactic(auto)]
+
+mod closed;
+mod empties;
+mod fault;
+mod forests;
+pub mod laws;
+mod one_forest;
+mod refuting;
+mod settling;
+mod small;
+mod solving;
+#[cfg(test)]
+mod tests;
+mod types;
+mod wides;
+
+pub use empties::{EmptyPoint, Ended, ends_refutation, first_empty, refute_empty};
+pub use fault::SettleFault;
+pub use forests::{Settlement, settle_forest};
+pub use settling::{Found, settle};
+pub use small::{Halt, numbers, small_number};
+pub use solving::{Solution, solve};
+pub use types::{Cause, Joint, Part};
+pub use wides::least_wide;

@@ -1,0 +1,152 @@
+// The joint question over all components.
+ghost use Rattle.std.specs.Prelude.{◌≡◌, ℕ, ◌<◌, All, IfOk, length, slice_get};
+ghost use Rattle.std.specs.List.Sorted.{IsStrictlySortedBy};
+ghost use Rattle.std.specs.Ordering.{nat_cmp};
+ghost use Rattle.xc_joint.specs.Answers.{Answers, IsAnswer};
+ghost use Rattle.xc_joint.specs.Steps.Settling.{AreAmong, AreReady, IsFound, IsReady, IsTold};
+ghost use Rattle.xc_system.specs.Components.{AreComponents, IsComponent};
+ghost use Rattle.xc_system.specs.Members.{IsIn};
+
+use crate::empties::{Ended, first_empty, refute_empty};
+use crate::fault::SettleFault;
+use crate::forests::{Settlement, settle_forest};
+use crate::types::{Cause, Joint, Part};
+use crate::wides::least_wide;
+use std::alloc::Global;
+use xc_frac::{Exact, Frac};
+use xc_lists::{Items, Memory};
+use xc_system::laws::components_decide;
+use xc_system::{
+    Certificate, Component, Refutation, Scratch, System, components, is_narrow_forest,
+};
+
+/// Whether one value for each point satisfies all facts and all equations: an answer, or the first component that
+/// is not settled.
+pub fn settle(alloc: Global, system: &System) -> Result<Joint, SettleFault>
+    ensures { Answers system.now result }
+{
+    let Ok(components) = components(alloc, system) else {
+        return Err(SettleFault::Memory);
+    };
+    let Ok(mut scratch) = Scratch::new(alloc, system.points()) else {
+        return Err(SettleFault::Memory);
+    };
+    let mut number: u32 = 0;
+    for component in components.as_slice() {
+        if is_other(system, component, &mut scratch) {
+            return Err(SettleFault::NotForest(number));
+        }
+        number += 1;
+    }
+    match gather(alloc, system, components.as_slice()) {
+        Ok(joint) => Ok(joint),
+        Err(_) => Err(SettleFault::Memory),
+    }
+}
+
+// Whether a component is not settled: it has no empty point and no wide fact, and is no narrow forest.
+fn is_other(system: &System, component: &Component, scratch: &mut Scratch) -> bool
+    requires { IsComponent system.now component.now }
+    ensures told { IsTold system.now component.now result }
+    ensures scratch { scratch.new ≡ scratch.old }
+{
+    if first_empty(system, component).is_some() {
+        return false;
+    }
+    if least_wide(system, component).is_some() {
+        return false;
+    }
+    !is_narrow_forest(system, component, scratch)
+}
+
+/// What is found of one component.
+#[derive(Debug, Drop)]
+pub enum Found {
+    /// A value for each of its points in order, by which it is solved.
+    Values(Items<Frac>),
+    /// Multipliers that contradict it.
+    Refuted(Refutation),
+    /// Why there is no answer.
+    Wide(Cause),
+}
+
+// What is found of a component.
+fn settle_one(alloc: Global, system: &System, component: &Component) -> Result<Found, Memory>
+    requires component { IsComponent system.now component.now }
+    requires ready { IsReady system.now component.now }
+    ensures { IfOk result (IsFound system.now component.now) }
+{
+    if let Some(found) = first_empty(system, component) {
+        return match refute_empty(alloc, system, component, found)? {
+            Ended::Refuted(refutation) => Ok(Found::Refuted(refutation)),
+            Ended::Passes(wide) => Ok(Found::Wide(Cause::Ends(found.low, found.high, wide))),
+        };
+    }
+    if let Some(fact) = least_wide(system, component) {
+        return Ok(Found::Wide(Cause::Fact(fact)));
+    }
+    match settle_forest(alloc, system, component)? {
+        Settlement::Values(values) => Ok(Found::Values(values)),
+        Settlement::Refuted(refutation) => Ok(Found::Refuted(refutation)),
+    }
+}
+
+// The answer, from what is found of each component.
+fn gather(alloc: Global, system: &System, components: &[Component]) -> Result<Joint, Memory>
+    requires components { AreComponents system.now components.now }
+    requires ready { AreReady system.now components.now (length components.now) }
+    ensures { IfOk result (IsAnswer system.now) }
+{
+    components_decide();
+    let mut all = zeros(alloc, system.points())?;
+    let mut parts = Vec::new(alloc);
+    let mut caused = false;
+    for component in components {
+        match settle_one(alloc, system, component)? {
+            Found::Refuted(refutation) => {
+                return Ok(Joint::Settled(Certificate::Infeasible(refutation)));
+            }
+            Found::Values(values) => {
+                place(
+                    all.as_mut_slice(),
+                    component.points.as_slice(),
+                    values.as_slice(),
+                );
+                parts.push(Part::Values(values))?;
+            }
+            Found::Wide(cause) => {
+                caused = true;
+                parts.push(Part::Wide(cause))?;
+            }
+        }
+    }
+    if caused {
+        return Ok(Joint::TooWide(Items::of(parts)));
+    }
+    Ok(Joint::Settled(Certificate::Feasible(Items::of(all))))
+}
+
+// As many numbers 0.
+fn zeros(alloc: Global, points: u32) -> Result<Vec<Frac>, Memory>
+    ensures { IfOk result (λ zeros. length zeros.items ≡ points) }
+{
+    let mut zeros = Vec::new(alloc);
+    for _point in 0..points {
+        zeros.push(Frac::zero())?;
+    }
+    Ok(zeros)
+}
+
+// Writes the values of these points among those of all points.
+fn place(all: &mut [Frac], points: &[u32], values: &[Frac])
+    requires inside { All (λ p. p < length all.old) points.now }
+    requires each { length values.now ≡ length points.now }
+    requires ascend { IsStrictlySortedBy nat_cmp points.now }
+    ensures length { length all.new ≡ length all.old }
+    ensures among { AreAmong points.now values.now all.new }
+    ensures kept { (p : ℕ) → ¬ IsIn p points.now → slice_get all.new p ≡ slice_get all.old p }
+{
+    for (number, point) in points.iter().enumerate() {
+        all[*point as usize] = values[number];
+    }
+}

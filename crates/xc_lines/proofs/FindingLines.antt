@@ -23,10 +23,10 @@ use Rattle.xc_lines.proofs.Words.{of_words}
 low : 10 < 45
 low = lit< tt
 
-number_lacks : (n : ℕ) → n < 2 ^ 64 → Lacks 10 (decimal n)
+pub number_lacks : (n : ℕ) → n < 2 ^ 64 → Lacks 10 (decimal n)
 number_lacks n small = let more : 2 ^ 64 < 10 ^ 64 = lit< tt in decimal_lacks 10 low n (omega (arith, small, more))
 
-printed_lacks : (text : List ℕ) → Lacks 10 (printed text)
+pub printed_lacks : (text : List ℕ) → Lacks 10 (printed text)
 printed_lacks text = recursion_from_All (λ b. b ≢ 10) (printed text) (All-weaker IsOfWord (λ b. b ≢ 10) (λ b h e. omega (arith, h.0, e)) (printed text) (of_words text))
 
 word_lacks : (v : Verdict) → Lacks 10 (verdict_word v)
@@ -48,10 +48,10 @@ code_lacks mode TooWide = tt
 -- ---- lines
 
 -- a line that begins with another letter is not `certificate 1`
-apart : (line : List ℕ) (c : ℕ) → get_or line 0 0 ≡ c → c ≢ 99 → line ≢ opening
+pub apart : (line : List ℕ) (c : ℕ) → get_or line 0 0 ≡ c → c ≢ 99 → line ≢ opening
 apart line c first other e = other (sym first ∙ ap (λ xs. get_or xs 0 0) e)
 
-one_line : (line : List ℕ) → IsPassed line → IsPassedText (line ++ codes "\n")
+pub one_line : (line : List ℕ) → IsPassed line → IsPassedText (line ++ codes "\n")
 one_line line p = record { lines = line ∷ []; are_passed = (p, tt); is = sym (append-nil (line ++ codes "\n")) }
 
 counts_pass : (b p : ℕ) → b < 2 ^ 64 → p < 2 ^ 64 → IsPassedText (counts_line b p)
@@ -95,7 +95,7 @@ no_lines = record { lines = []; are_passed = tt; is = refl }
 
 module _ (join : PassedTextsJoin) where
   -- the texts of numbered things
-  numbered_pass : {X : Type 0} (keeps : ℕ × X → Bool) (text : ℕ × X → List ℕ) → ((n : ℕ) (x : X) → n < 2 ^ 64 → IsPassedText (text (n, x))) → (k : ℕ) (xs : List X) → k + length xs ≤ 2 ^ 64 → IsPassedText (flat_map text (filter keeps (enumerate_from k xs)))
+  pub numbered_pass : {X : Type 0} (keeps : ℕ × X → Bool) (text : ℕ × X → List ℕ) → ((n : ℕ) (x : X) → n < 2 ^ 64 → IsPassedText (text (n, x))) → (k : ℕ) (xs : List X) → k + length xs ≤ 2 ^ 64 → IsPassedText (flat_map text (filter keeps (enumerate_from k xs)))
   numbered_pass keeps text each k [] small = no_lines
   numbered_pass keeps text each k (x ∷ xs) small =
       let rest = numbered_pass keeps text each (k + 1) xs (omega (arith, small)) in

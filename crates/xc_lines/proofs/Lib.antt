@@ -1,4 +1,6 @@
 pub mod Appended
 pub mod Examples
 pub mod FindingLines
+pub mod Naming
+pub mod SettledText
 pub mod Words

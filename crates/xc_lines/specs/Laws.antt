@@ -1,17 +1,19 @@
 -- What follows from the definitions for all texts and reports.
-use Rattle.std.specs.Prelude.{◌≡◌, ◌≢◌, ◌<◌, ◌^◌, ℕ, List, [], length, All}
+use Rattle.std.specs.Prelude.{◌≡◌, ◌≢◌, ◌<◌, ◌^◌, ◌++◌, ℕ, List, [], length, All}
 use Rattle.std.specs.Str.{IsUtf8}
 use Rattle.xc_bind.specs.declared.types.Binding.{Binding}
 use Rattle.xc_bind.specs.declared.types.Verdict.{Verdict}
 use Rattle.xc_calc.specs.declared.arc.Network.{Network}
-use Rattle.xc_cert.specs.Certificates.{IsPassedText}
+use Rattle.xc_cert.specs.Certificates.{IsCertificate, IsPassedText, IsTextOf}
 use Rattle.xc_interval.specs.declared.mode.Mode.{Mode}
 use Rattle.xc_lines.specs.Findings.{CarryFacts, findings}
 use Rattle.xc_lines.specs.Lines.{printed}
+use Rattle.xc_lines.specs.Settled.{settled_lines}
 use Rattle.xc_points.specs.Gathered.{ArePoints}
 use Rattle.xc_points.specs.Kept.{Gathered, AreKept}
 use Rattle.xc_points.specs.declared.types.Point.{Point}
 use Rattle.xc_report.specs.declared.reports.Fact.{Fact}
+use Rattle.xc_system.specs.declared.types.Certificate.{Certificate}
 
 -- a byte of a word: no control character and no space
 abbrev pub IsOfWord : ℕ → Type 0
@@ -33,3 +35,7 @@ PointsCarryFacts = (mode : Mode) (facts : List Fact) (gathered : Gathered) → A
 abbrev pub FindingsArePassed : Type 0
 FindingsArePassed = (mode : Mode) (facts : List Fact) (networks : List Network) (points : List Point) (bindings : List Binding) (verdicts : List Verdict)
     → length bindings < 2 ^ 64 → length points < 2 ^ 64 → IsPassedText (findings mode facts networks points bindings verdicts)
+
+-- what is written where the joint question is settled is a text of its certificate, whatever lines stand before that are passed over
+abbrev pub SettledIsText : Type 0
+SettledIsText = (front : List ℕ) (facts : List Fact) (certificate : Certificate) → IsPassedText front → length facts < 2 ^ 64 → IsCertificate certificate → IsTextOf (front ++ settled_lines facts certificate) certificate

@@ -1,4 +1,7 @@
 pub mod Findings
+pub mod Joints
 pub mod Judgements
 pub mod Laws
 pub mod Lines
+pub mod Settled
+pub mod Steps

@@ -36,7 +36,7 @@ pub fn judgement_line(
 }
 
 // The id of a fact, by its number.
-fn fact_id(facts: &[Fact], number: u32) -> &str
+pub(crate) fn fact_id(facts: &[Fact], number: u32) -> &str
     requires { number < length facts.now }
     ensures { result.now ≡ fact_id facts.now number }
 {

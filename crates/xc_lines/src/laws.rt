@@ -1,9 +1,9 @@
 //! What the definitions of this crate say, in the words of lines and reports.
 //!
 //! Each function does nothing: its contract is the law.
-ghost use Rattle.xc_lines.specs.Laws.{PrintsOneWord, PrintsApart, PointsCarryFacts, FindingsArePassed};
+ghost use Rattle.xc_lines.specs.Laws.{PrintsOneWord, PrintsApart, PointsCarryFacts, FindingsArePassed, SettledIsText};
 
-use xc_cert::laws::passed_texts_join;
+use xc_cert::laws::{passed_texts_join, written_is_text};
 
 /// A printed text is one word of its line: spaces and line feeds stand only where a line has them.
 pub fn prints_one_word()
@@ -25,4 +25,12 @@ pub fn findings_are_passed()
     ensures { FindingsArePassed }
 {
     passed_texts_join();
+}
+
+/// What is written where the joint question is settled is a text of its certificate, also behind findings.
+pub fn settled_is_text()
+    ensures { SettledIsText }
+{
+    passed_texts_join();
+    written_is_text();
 }

@@ -21,7 +21,7 @@ few_facts facts networks h =
     omega arith
 
 -- there are as many intervals as facts
-ends_length : (mode : Mode) (facts : List Fact) (ends : List (Option (Interval Ratio))) → AreEnds mode facts ends → length ends ≡ length facts
+pub ends_length : (mode : Mode) (facts : List Fact) (ends : List (Option (Interval Ratio))) → AreEnds mode facts ends → length ends ≡ length facts
 ends_length mode [] [] h = refl
 ends_length mode [] (e ∷ es) h = absurd h
 ends_length mode (fact ∷ facts) [] h = absurd h

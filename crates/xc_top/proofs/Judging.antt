@@ -7,7 +7,7 @@ use Rattle.xc_interval.specs.declared.mode.Mode.{Mode}
 use Rattle.xc_points.specs.Gathered.{ArePoints}
 use Rattle.xc_points.specs.Kept.{Gathered}
 use Rattle.xc_report.specs.declared.reports.Fact.{Fact}
-use Rattle.xc_top.specs.Judged.{AreVerdicts}
+use Rattle.xc_top.specs.Findings.{AreVerdicts}
 use Rattle.xc_verdict.specs.Verdicts.{IsVerdict}
 
 -- the first i bindings have these verdicts: with one for each that is left, all have theirs

@@ -23,3 +23,4 @@ pub mod Renaming
 pub mod Schemas
 pub mod Stops
 pub mod Told
+pub mod Writable

@@ -1,5 +1,5 @@
 -- Facts, networks and points with other numbers for their concepts have the same lines, and facts one answer.
-use Rattle.std.proofs.Common.{◌≡◌, ◌++◌, ◌||◌, ℕ, codes, List, [], map, length, filter, Bool, true, false, Option, Some, None, MatchBool, option_map, option_and_then, slice_get, flat_map, zip, if◌then◌else◌, refl, sym, ap, ap₂, subst, ◌∙◌}
+use Rattle.std.proofs.Common.{inl, inr, append_assoc, append-nil, ◌≡◌, ◌++◌, ◌||◌, ℕ, codes, List, [], map, length, filter, Bool, true, false, Option, Some, None, MatchBool, option_map, option_and_then, slice_get, flat_map, zip, if◌then◌else◌, refl, sym, ap, ap₂, subst, ◌∙◌}
 use Rattle.std.proofs.Math.ListN.{length-map}
 use Rattle.std.proofs.lemmas.List.Folds.{flat_map-map}
 use Rattle.std.proofs.lemmas.Option.{slice_get-map}
@@ -11,19 +11,29 @@ use Rattle.xc_bind.specs.declared.types.Verdict.{Verdict}
 use Rattle.xc_calc.specs.declared.arc.Network.{Network}
 use Rattle.xc_interval.specs.declared.mode.Mode.{Mode}
 use Rattle.xc_calc.specs.Networks.{role_of}
+use Rattle.xc_cert.specs.Certificates.{certificate_text}
 use Rattle.xc_interval.specs.Ranges.{is_empty_range}
+use Rattle.xc_joint.specs.Kinds.{Outcome, Answered, Unsettled, IsOutcome, Kind, HasOneKind, kind_of}
+use Rattle.xc_joint.specs.declared.types.Joint.TheVariants.{Settled, TooWide as Caused}
+use Rattle.xc_lines.specs.Joints.{not_forest_line, part_lines}
+use Rattle.xc_lines.specs.Settled.{because_lines}
 use Rattle.xc_lines.specs.Findings.{first_id, first_id_at, counts_line, binding_line, empty_point_line, line_of, binding_lines, empty_point_lines, findings}
+use Rattle.xc_points.specs.Gathered.{ArePoints}
+use Rattle.xc_points.specs.Kept.{Gathered}
 use Rattle.xc_points.specs.declared.types.Point.{Point}
 use Rattle.xc_report.specs.declared.reports.Fact.{Fact}
+use Rattle.xc_system.specs.declared.types.Certificate.TheVariants.{Feasible, Infeasible}
 use Rattle.xc_lists.proofs.ListsOfImages.{any_changed, filter-map, behind_number, enumerate_from-map}
 use Rattle.xc_top.proofs.RenamedBindings.{bindings_renamed}
 use Rattle.xc_top.proofs.RenamedPoints.{points_renamed}
-use Rattle.xc_top.proofs.RenamedSystems.{Certifies, fact_id_renamed, same_certified}
+use Rattle.xc_top.proofs.RenamedSystems.{Certifies, fact_id_renamed, one_system_in, same_certified}
 use Rattle.xc_top.proofs.RenamedVerdicts.{one_verdicts}
 use Rattle.xc_report.specs.Renamed.{renamed_fact}
 use Rattle.xc_top.proofs.Renaming.{IsInjective, renamed_network, renamed_point}
 use Rattle.xc_top.specs.Answers.{make_answer, refused}
-use Rattle.xc_top.specs.Judged.{Asked, Sought, FindingsWith, JudgementOf, is_inconsistent, is_too_wide, is_empty_point, status_of, AreVerdicts, IsFindings, IsSought, are_too_many, IsCounted}
+use Rattle.xc_top.specs.Findings.{is_inconsistent, is_too_wide, is_empty_point, is_contradicted, is_caused, status_of, joint_status, AreVerdicts, IsFindings, IsJointFindings, findings_of, outcome_lines}
+use Rattle.xc_top.specs.Judged.{Asked, Sought, FindingsAlone, FindingsAndJoint, JudgementOf, IsJoint, IsSought, are_too_many, IsCounted}
+use Rattle.xc_top.specs.Laws.{AreOfOneKind, AreOneIf, kind_line}
 use Rattle.xc_top.specs.declared.status.Answer.{Answer}
 use Rattle.xc_top.specs.declared.status.Status.TheVariants.{Sound, Findings, TooWide}
 use Rattle.xc_verdict.specs.Laws.{HasOneVerdict}
@@ -90,35 +100,91 @@ module _ (f : ℕ → ℕ) where
       ap (λ (empty : Bool). if list_any is_inconsistent verdicts || empty then Findings else if list_any is_too_wide verdicts then TooWide else Sound)
       (any_changed (renamed_point f) is_empty_point is_empty_point (λ point. refl) points)
 
+  -- nor does it with the joint part
+  joint_status_renamed : (points : List Point) (verdicts : List Verdict) (kind : Kind) → joint_status (map (renamed_point f) points) verdicts kind ≡ joint_status points verdicts kind
+  joint_status_renamed points verdicts kind =
+      ap (λ (empty : Bool). if (list_any is_inconsistent verdicts || empty) || is_contradicted kind then Findings else if list_any is_too_wide verdicts || is_caused kind then TooWide else Sound)
+      (any_changed (renamed_point f) is_empty_point is_empty_point (λ point. refl) points)
+
+-- ---- joint parts
+
+-- a joint part begins with the line of its kind
+begins : (facts : List Fact) (outcome : Outcome) → (rest : List ℕ) × (outcome_lines facts outcome ≡ kind_line (kind_of outcome) ++ rest)
+begins facts (Answered (Settled (Feasible values))) = (certificate_text (Feasible values), refl)
+begins facts (Answered (Settled (Infeasible r))) =
+    (because_lines r (enumerate_from 0 facts) ++ certificate_text (Infeasible r), append_assoc (codes "joint infeasible\n") (because_lines r (enumerate_from 0 facts)) (certificate_text (Infeasible r)))
+begins facts (Answered (Caused parts)) = (part_lines facts (enumerate_from 0 parts), refl)
+begins facts (Unsettled k) = ([], sym (append-nil (not_forest_line k)))
+
 -- ---- one answer
 
 -- the laws by which facts have one answer
 pub record Judges : Type 0 where
   pub verdict : HasOneVerdict
+  pub kind : HasOneKind
   pub certifies : Certifies
 
-module _ (laws : Judges) (f : ℕ → ℕ) (injective : IsInjective f) (mode : Mode) (networks : List Network) (facts : List Fact) where
-  same_findings : (close : List ℕ) (one other : Answer) → IsFindings mode close networks facts one → IsFindings mode close (map (renamed_network f) networks) (map (renamed_fact f) facts) other → one ≡ other
-  same_findings close one other h k =
-      let points = points_renamed laws.certifies.range f injective mode facts h.points k.points h.points_are k.points_are in
-      let bindings = ap (λ ps. bindings_of (map (renamed_network f) networks) ps) points ∙ bindings_renamed f injective networks h.points.points in
-      let verdicts_are : AreVerdicts mode (map (renamed_fact f) facts) (map (renamed_point f) h.points.points) (bindings_of networks h.points.points) k.verdicts =
-      subst (λ bs. AreVerdicts mode (map (renamed_fact f) facts) (map (renamed_point f) h.points.points) bs k.verdicts) bindings
-      (subst (λ ps. AreVerdicts mode (map (renamed_fact f) facts) ps (bindings_of (map (renamed_network f) networks) k.points.points) k.verdicts) points k.verdicts_are) in
-      let verdicts = one_verdicts laws.verdict f mode facts h.points.points (bindings_of networks h.points.points) h.verdicts k.verdicts h.verdicts_are verdicts_are in
-      let status : status_of k.points.points k.verdicts ≡ status_of h.points.points h.verdicts =
-      (λ i. status_of (points i) (sym verdicts i)) ∙ status_renamed f h.points.points h.verdicts in
-      let lines = (λ i. findings mode (map (renamed_fact f) facts) (map (renamed_network f) networks) (points i) (bindings i) (sym verdicts i))
-      ∙ findings_renamed f mode facts networks h.points.points (bindings_of networks h.points.points) h.verdicts in
-      h.is ∙ sym (k.is ∙ ap₂ (λ status lines. make_answer status (lines ++ close)) status lines)
+-- what is found of renamed facts is what is found of the facts
+record AreFound (mode : Mode) (f : ℕ → ℕ) (networks : List Network) (facts : List Fact) (points others : List Point) (verdicts other_verdicts : List Verdict) : Type 0 where
+  pub points_are : others ≡ map (renamed_point f) points
+  pub verdicts_are : verdicts ≡ other_verdicts
+  pub lines : findings_of mode (map (renamed_network f) networks) (map (renamed_fact f) facts) others other_verdicts ≡ findings_of mode networks facts points verdicts
 
-  same_sought : (sought : Sought) (one other : Answer) → IsSought mode sought networks facts one → IsSought mode sought (map (renamed_network f) networks) (map (renamed_fact f) facts) other → one ≡ other
-  same_sought (FindingsWith close) one other h k = same_findings close one other h k
-  same_sought (JudgementOf word bytes) one other h k = same_certified laws.certifies f injective mode word bytes networks facts one other h k
+module _ (laws : Judges) (f : ℕ → ℕ) (injective : IsInjective f) (mode : Mode) (networks : List Network) (facts : List Fact) where
+  are_found : (gathered other : Gathered) (verdicts other_verdicts : List Verdict) → ArePoints mode facts gathered → ArePoints mode (map (renamed_fact f) facts) other
+      → AreVerdicts mode facts gathered.points (bindings_of networks gathered.points) verdicts
+      → AreVerdicts mode (map (renamed_fact f) facts) other.points (bindings_of (map (renamed_network f) networks) other.points) other_verdicts
+      → AreFound mode f networks facts gathered.points other.points verdicts other_verdicts
+  are_found gathered other verdicts other_verdicts points_are other_points_are h k =
+      let points = points_renamed laws.certifies.range f injective mode facts gathered other points_are other_points_are in
+      let bindings = ap (λ ps. bindings_of (map (renamed_network f) networks) ps) points ∙ bindings_renamed f injective networks gathered.points in
+      let verdicts_are : AreVerdicts mode (map (renamed_fact f) facts) (map (renamed_point f) gathered.points) (bindings_of networks gathered.points) other_verdicts =
+      subst (λ bs. AreVerdicts mode (map (renamed_fact f) facts) (map (renamed_point f) gathered.points) bs other_verdicts) bindings
+      (subst (λ ps. AreVerdicts mode (map (renamed_fact f) facts) ps (bindings_of (map (renamed_network f) networks) other.points) other_verdicts) points k) in
+      let same = one_verdicts laws.verdict f mode facts gathered.points (bindings_of networks gathered.points) verdicts other_verdicts h verdicts_are in
+      record {
+        points_are = points;
+        verdicts_are = same;
+        lines = (λ i. findings mode (map (renamed_fact f) facts) (map (renamed_network f) networks) (points i) (bindings i) (sym same i))
+            ∙ findings_renamed f mode facts networks gathered.points (bindings_of networks gathered.points) verdicts;
+      }
+
+  same_findings : (one other : Answer) → IsFindings mode networks facts one → IsFindings mode (map (renamed_network f) networks) (map (renamed_fact f) facts) other → one ≡ other
+  same_findings one other h k =
+      let found = are_found h.points k.points h.verdicts k.verdicts h.points_are k.points_are h.verdicts_are k.verdicts_are in
+      let status : status_of k.points.points k.verdicts ≡ status_of h.points.points h.verdicts =
+      (λ i. status_of (found.points_are i) (sym found.verdicts_are i)) ∙ status_renamed f h.points.points h.verdicts in
+      h.is ∙ sym (k.is ∙ ap₂ (λ status lines. make_answer status lines) status found.lines)
+
+  -- the findings are the same, and the joint parts are of one kind
+  same_joint : (one other : Answer) → IsJointFindings mode networks facts one → IsJointFindings mode (map (renamed_network f) networks) (map (renamed_fact f) facts) other → AreOfOneKind one other
+  same_joint one other h k =
+      let found = are_found h.points k.points h.verdicts k.verdicts h.points_are k.points_are h.verdicts_are k.verdicts_are in
+      let system : h.system ≡ k.system = one_system_in f laws.certifies.range laws.certifies.ends laws.certifies.system injective mode networks facts h.system k.system
+      (record { points = h.points; points_are = h.points_are; system_is = h.system_is }) (record { points = k.points; points_are = k.points_are; system_is = k.system_is }) in
+      let kind : kind_of h.outcome ≡ kind_of k.outcome = laws.kind h.system h.outcome k.outcome h.kept h.outcome_is (subst (λ s. IsOutcome s k.outcome) (sym system) k.outcome_is) in
+      let status : joint_status k.points.points k.verdicts (kind_of k.outcome) ≡ joint_status h.points.points h.verdicts (kind_of h.outcome) =
+      (λ i. joint_status (found.points_are i) (sym found.verdicts_are i) (sym kind i)) ∙ joint_status_renamed f h.points.points h.verdicts (kind_of h.outcome) in
+      let first = begins facts h.outcome in
+      let second = begins (map (renamed_fact f) facts) k.outcome in
+      record {
+        status = ap (λ a. a.status) h.is ∙ sym (ap (λ a. a.status) k.is ∙ status);
+        findings = findings_of mode networks facts h.points.points h.verdicts;
+        kind = kind_of h.outcome;
+        rest = first.0;
+        other_rest = second.0;
+        one_is = ap (λ a. a.text) h.is ∙ ap (λ lines. findings_of mode networks facts h.points.points h.verdicts ++ lines) first.1;
+        other_is = ap (λ a. a.text) k.is ∙ ap₂ (λ found lines. found ++ lines) found.lines (second.1 ∙ ap (λ kind. kind_line kind ++ second.0) (sym kind));
+      }
+
+  same_sought : (sought : Sought) (one other : Answer) → IsSought mode sought networks facts one → IsSought mode sought (map (renamed_network f) networks) (map (renamed_fact f) facts) other → AreOneIf (IsJoint sought) one other
+  same_sought FindingsAlone one other h k = inl (same_findings one other h k)
+  same_sought FindingsAndJoint one other h k = inr (tt, same_joint one other h k)
+  same_sought (JudgementOf word bytes) one other h k = inl (same_certified laws.certifies f injective mode word bytes networks facts one other h k)
 
 -- facts have one answer, whatever the numbers of names
 pub one_counted : Judges → (f : ℕ → ℕ) → IsInjective f → (asked : Asked) (networks : List Network) (facts : List Fact) (one other : Answer)
-    → IsCounted asked networks facts one → IsCounted asked (map (renamed_network f) networks) (map (renamed_fact f) facts) other → one ≡ other
+    → IsCounted asked networks facts one → IsCounted asked (map (renamed_network f) networks) (map (renamed_fact f) facts) other → AreOneIf (IsJoint asked.sought) one other
 one_counted laws f injective asked networks facts one other h k =
     by (are_too_many (length facts) (length networks)) h
     (subst (λ many. MatchBool many (other ≡ refused asked.word (codes "xc:tooMany")) (IsSought asked.mode asked.sought (map (renamed_network f) networks) (map (renamed_fact f) facts) other)) many k)
@@ -127,6 +193,6 @@ one_counted laws f injective asked networks facts one other h k =
     many = ap₂ (λ m n. are_too_many m n) (length-map facts (renamed_fact f)) (length-map networks (renamed_network f))
 
     by : (b : Bool) → MatchBool b (one ≡ refused asked.word (codes "xc:tooMany")) (IsSought asked.mode asked.sought networks facts one)
-        → MatchBool b (other ≡ refused asked.word (codes "xc:tooMany")) (IsSought asked.mode asked.sought (map (renamed_network f) networks) (map (renamed_fact f) facts) other) → one ≡ other
-    by true h k = h ∙ sym k
+        → MatchBool b (other ≡ refused asked.word (codes "xc:tooMany")) (IsSought asked.mode asked.sought (map (renamed_network f) networks) (map (renamed_fact f) facts) other) → AreOneIf (IsJoint asked.sought) one other
+    by true h k = inl (h ∙ sym k)
     by false h k = same_sought laws f injective asked.mode networks facts asked.sought one other h k

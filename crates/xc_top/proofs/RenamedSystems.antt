@@ -76,7 +76,7 @@ module _ (f : ℕ → ℕ) where
 
   module _ (range : HasOneRange) (ends : HasOneEnds) (system : HasOneSystem) (injective : IsInjective f) where
     -- the systems of renamed networks and facts are the same
-    one_system_in : (mode : Mode) (networks : List Network) (facts : List Fact) (s t : Constraints)
+    pub one_system_in : (mode : Mode) (networks : List Network) (facts : List Fact) (s t : Constraints)
         → IsSystemIn mode networks facts s → IsSystemIn mode (map (renamed_network f) networks) (map (renamed_fact f) facts) t → s ≡ t
     one_system_in mode networks facts s t h k =
         let points : k.points.points ≡ map (renamed_point f) h.points.points = points_renamed range f injective mode facts h.points k.points h.points_are k.points_are in

@@ -13,7 +13,7 @@ use Rattle.xc_report.specs.declared.reports.Fact.{Fact}
 use Rattle.xc_top.proofs.RenamedPoints.{SaysAlike, says_same, says_back}
 use Rattle.xc_report.specs.Renamed.{renamed_fact}
 use Rattle.xc_top.proofs.Renaming.{renamed_point}
-use Rattle.xc_top.specs.Judged.{AreVerdicts}
+use Rattle.xc_top.specs.Findings.{AreVerdicts}
 use Rattle.xc_verdict.specs.Laws.{HasOneVerdict}
 use Rattle.xc_verdict.specs.Ranges.{named, SomeHas, EachHas, range_if, range_at}
 use Rattle.xc_verdict.specs.Verdicts.{AdmitsAt, TermsAdmit, HasWide, HasEmpty, Agrees, CanBeJudged, IsVerdict}

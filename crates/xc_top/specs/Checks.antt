@@ -1,5 +1,5 @@
 -- What is answered of a report over the documents of a taxonomy: what `check` answers, and `verify`.
-use Rattle.std.specs.Prelude.{◌≡◌, ◌⊎◌, ℕ, List, Some, Result, Ok, Err, codes}
+use Rattle.std.specs.Prelude.{◌≡◌, ◌⊎◌, ℕ, List, Some, Result, Ok, Err}
 use Rattle.xc_calc.specs.declared.arc.ArcKind.{ArcKind}
 use Rattle.xc_calc.specs.declared.arc.Network.{Network}
 use Rattle.xc_io.specs.Shelf.{Files}
@@ -9,7 +9,7 @@ use Rattle.xc_report.specs.Opened.{Opened, opened}
 use Rattle.xc_report.specs.declared.reports.ReportFault.{ReportFault}
 use Rattle.xc_top.specs.Answers.{report_refusal}
 use Rattle.xc_top.specs.Documents.{AreDocumentsOf}
-use Rattle.xc_top.specs.Judged.{Asked, Sought, FindingsWith, JudgementOf, IsFactsAnswer}
+use Rattle.xc_top.specs.Judged.{Asked, Sought, FindingsAndJoint, JudgementOf, IsFactsAnswer}
 use Rattle.xc_top.specs.Taxonomies.{IsTaxonomyOf, IsTaxonomyRefusal}
 use Rattle.xc_top.specs.Words.{CheckWords, VerifyWords}
 use Rattle.xc_top.specs.declared.documents.Document.{Document}
@@ -44,13 +44,9 @@ pub record IsOverFiles (check : CheckWords) (sought : Sought) (files : Files) (a
   pub read : AreDocumentsOf files check.documents documents
   pub answered : IsDocumentsAnswer check.kind (over_asked check sought) bytes documents answer
 
--- the line of what is not asked yet
-abbrev pub joint_line : List ℕ
-joint_line = codes "joint not asked\n"
-
--- what `check` answers: the findings, and the line of what is not asked yet
+-- what `check` answers: the findings, with the joint part
 abbrev pub IsCheckAnswer : CheckWords → Files → Answer → Type 0
-IsCheckAnswer check files answer = IsOverFiles check (FindingsWith joint_line) files answer
+IsCheckAnswer check files answer = IsOverFiles check FindingsAndJoint files answer
 
 -- what `verify` answers: the judgement of the certificate that is held
 abbrev pub IsVerifyAnswer : VerifyWords → Files → Answer → Type 0

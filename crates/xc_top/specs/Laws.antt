@@ -1,8 +1,11 @@
 -- What follows from the definitions.
-use Rattle.std.specs.Prelude.{◌≡◌, ℕ, List}
+use Rattle.std.specs.Prelude.{◌≡◌, ◌⊎◌, ◌++◌, ℕ, List, Option, Some, None, codes}
 use Rattle.xc_io.specs.Shelf.{Files}
+use Rattle.xc_joint.specs.Kinds.{Kind, Solved, Contradicted, Caused, Left}
+use Rattle.xc_lines.specs.Joints.{not_forest_line}
 use Rattle.xc_top.specs.Answer.{IsAnswerOf}
 use Rattle.xc_top.specs.Documents.{AreDocumentsOf}
+use Rattle.xc_top.specs.Words.{CommandWords, SumOf, CheckOf, VerifyOf, words_of}
 use Rattle.xc_top.specs.declared.documents.Document.{Document}
 use Rattle.xc_top.specs.declared.status.Answer.{Answer}
 
@@ -10,6 +13,34 @@ use Rattle.xc_top.specs.declared.status.Answer.{Answer}
 abbrev pub DocumentsAreOne : Type 0
 DocumentsAreOne = (files : Files) (words : List (List ℕ)) (one other : List Document) → AreDocumentsOf files words one → AreDocumentsOf files words other → one ≡ other
 
--- words and files have one answer, whatever the numbers that names get
+-- the words ask for the joint part
+abbrev pub IsCheck : Option CommandWords → Type 0
+IsCheck None = ⊥
+IsCheck (Some (SumOf sum)) = ⊥
+IsCheck (Some (CheckOf check)) = Unit {0}
+IsCheck (Some (VerifyOf verify)) = ⊥
+
+-- the first line of a joint part
+abbrev pub kind_line : Kind → List ℕ
+kind_line Solved = codes "joint feasible\n"
+kind_line Contradicted = codes "joint infeasible\n"
+kind_line Caused = codes "joint too-wide\n"
+kind_line (Left k) = not_forest_line k
+
+-- the same status and the same findings, behind which joint parts of one kind stand: the certificate, or the causes, may be others
+pub record AreOfOneKind (one other : Answer) : Type 0 where
+  pub status : one.status ≡ other.status
+  pub findings : List ℕ
+  pub kind : Kind
+  pub rest : List ℕ
+  pub other_rest : List ℕ
+  pub one_is : one.text ≡ findings ++ (kind_line kind ++ rest)
+  pub other_is : other.text ≡ findings ++ (kind_line kind ++ other_rest)
+
+-- the answers are one, or, where this holds, of one kind
+abbrev pub AreOneIf : Type 0 → Answer → Answer → Type 0
+AreOneIf P one other = (one ≡ other) ⊎ (P × AreOfOneKind one other)
+
+-- words and files have one answer, whatever the numbers that names get; only what stands behind the first line of a joint part may be another
 abbrev pub AnswersAreOne : Type 0
-AnswersAreOne = (words : List (List ℕ)) (files : Files) (one other : Answer) → IsAnswerOf words files one → IsAnswerOf words files other → one ≡ other
+AnswersAreOne = (words : List (List ℕ)) (files : Files) (one other : Answer) → IsAnswerOf words files one → IsAnswerOf words files other → AreOneIf (IsCheck (words_of words)) one other

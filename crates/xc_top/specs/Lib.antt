@@ -3,6 +3,7 @@ pub mod Answers
 pub mod Certified
 pub mod Checks
 pub mod Documents
+pub mod Findings
 pub mod Judged
 pub mod Laws
 pub mod Proven

@@ -1,6 +1,7 @@
 -- What describes private steps of the code: no clause of a public function cites these.
 pub mod Added
 pub mod Fetches
+pub mod Joined
 pub mod Named
 pub mod Stops
 pub mod Views

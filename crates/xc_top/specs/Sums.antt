@@ -22,12 +22,12 @@ use Rattle.xc_names.specs.declared.wanted.Wanted.{Wanted}
 use Rattle.xc_report.specs.Opened.{Opened, opened}
 use Rattle.xc_report.specs.declared.reports.ReportFault.{ReportFault}
 use Rattle.xc_top.specs.Answers.{name_refusal, report_refusal}
-use Rattle.xc_top.specs.Judged.{Asked, FindingsWith, IsFactsAnswer}
+use Rattle.xc_top.specs.Judged.{Asked, FindingsAlone, IsFactsAnswer}
 use Rattle.xc_top.specs.Words.{SumWords, name_of, is_negative}
 use Rattle.xc_top.specs.declared.status.Answer.{Answer}
 
 abbrev pub sum_asked : SumWords → Asked
-sum_asked sum = record { word = sum.report; mode = sum.mode; sought = FindingsWith [] }
+sum_asked sum = record { word = sum.report; mode = sum.mode; sought = FindingsAlone }
 
 -- the words of the total and of the contributors, each with the name in it
 abbrev pub named_words : SumWords → List (List ℕ × List ℕ)

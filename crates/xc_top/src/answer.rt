@@ -3,9 +3,6 @@ ghost use Rattle.std.specs.Prelude.{◌≡◌, length, IfOk};
 ghost use Rattle.xc_top.specs.Steps.Stops.{Answers, IsAnswerIn, IsEnding};
 ghost use Rattle.xc_top.specs.Steps.Named.{named, named_sum, named_check, named_verify};
 ghost use Rattle.xc_top.specs.Steps.Fetches.{IsOver, Leaves};
-ghost use Rattle.xc_top.specs.Checks.{joint_line};
-ghost use Rattle.xc_top.specs.Judged.{FindingsWith};
-ghost use Rattle.xc_top.specs.Steps.Views.{sought};
 ghost use Rattle.xc_top.specs.Words.{SumOf, CheckOf, VerifyOf, file_words};
 
 use crate::check::answer_documents;
@@ -67,14 +64,7 @@ fn answer_check<S: Shelf>(alloc: Global, check: &Check<'_>, shelf: &mut S) -> Re
 {
     let report = fetch(alloc, check.report, shelf)?;
     let documents = fetch_documents(alloc, check.documents, shelf)?;
-    answer_documents(alloc, check, findings_sought(), &report, documents)
-}
-
-// The findings, with the line of what is not asked yet.
-fn findings_sought() -> Goal<'static>
-    ensures { sought result ≡ FindingsWith joint_line }
-{
-    Goal::Findings("joint not asked\n")
+    answer_documents(alloc, check, Goal::Joint, &report, documents)
 }
 
 fn answer_verify<S: Shelf>(

@@ -2,22 +2,18 @@
 ghost use Rattle.std.specs.Prelude.{◌≡◌, ◌<◌, ◌*◌, ◌+◌, ◌^◌, IfOk, length, false};
 ghost use Rattle.xc_report.specs.Drafts.{draft_view};
 ghost use Rattle.xc_top.specs.Steps.Stops.{Answers, IsSettled};
-ghost use Rattle.xc_top.specs.Judged.{IsFactsAnswer, IsCounted, IsFindings, are_too_many};
+ghost use Rattle.xc_top.specs.Judged.{IsFactsAnswer, IsCounted, are_too_many};
 ghost use Rattle.xc_top.specs.Steps.Views.{asked};
 
 use crate::certified::answer_certificate;
+use crate::found::answer_findings;
+use crate::joint::answer_joint;
 use crate::refusals::{refused, report_refusal};
 use crate::status::{Answer, Stop};
-use crate::verdicts::{status_of, verdicts_of};
 use std::alloc::Global;
-use xc_bind::bindings;
 use xc_calc::Network;
 use xc_interval::Mode;
-use xc_lines::findings;
-use xc_lines::laws::points_carry_facts;
-use xc_lists::{Items, Memory};
 use xc_names::{Names, Wanted};
-use xc_points::points;
 use xc_report::{Draft, Report};
 
 /// What is asked of a report.
@@ -33,8 +29,10 @@ pub struct Question<'a> {
 /// What is sought in the facts of a report.
 #[derive(Clone, Copy)]
 pub enum Goal<'a> {
-    /// Its findings, with these lines behind them.
-    Findings(&'a str),
+    /// Its findings alone.
+    Findings,
+    /// These, with the joint part.
+    Joint,
     /// The judgement of a certificate, by the word of its file and its bytes.
     Judgement(&'a str, &'a [u8]),
 }
@@ -71,9 +69,8 @@ fn answer_report(
         return Err(refused(alloc, question.report, "xc:tooMany"));
     }
     match question.goal {
-        Goal::Findings(close) => {
-            Ok(answer_findings(alloc, question.mode, close, report, networks)?)
-        }
+        Goal::Findings => Ok(answer_findings(alloc, question.mode, report, networks)?),
+        Goal::Joint => Ok(answer_joint(alloc, question.mode, report, networks)?),
         Goal::Judgement(word, bytes) => {
             answer_certificate(alloc, question.mode, word, bytes, report, networks)
         }
@@ -85,30 +82,4 @@ fn are_too_many(facts: usize, networks: usize) -> bool
     ensures { result ≡ are_too_many facts networks }
 {
     (facts as u128) * (networks as u128 + 1) >= 2_147_483_648
-}
-
-// The findings of a report, with these lines behind them.
-fn answer_findings(
-    alloc: Global,
-    mode: Mode,
-    close: &str,
-    report: &Report,
-    networks: &[Network],
-) -> Result<Answer, Memory>
-    requires { are_too_many (length report.now.facts) (length networks.now) ≡ false }
-    ensures answer { IfOk result (λ answer. IsFindings mode close.now networks.now report.now.facts answer) }
-    ensures settles { IfOk result (λ answer. IsSettled answer.status) }
-{
-    // The numbers in the points are those of the report's facts.
-    points_carry_facts();
-    let points = points(alloc, report, mode)?;
-    let list = points.as_slice();
-    let bindings = bindings(alloc, networks, &points)?;
-    let verdicts = verdicts_of(alloc, &bindings, &points)?;
-    let mut text = findings(alloc, report, &points, networks, &bindings, &verdicts, mode)?;
-    text.extend_from_slice(close.as_bytes())?;
-    Ok(Answer {
-        status: status_of(list, &verdicts),
-        text: Items::of(text),
-    })
 }

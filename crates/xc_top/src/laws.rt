@@ -7,6 +7,7 @@ use xc_bind::laws::system_is_one;
 use xc_calc::laws::networks_are_one;
 use xc_cert::laws::{one_certificate, one_fault, text_or_fault};
 use xc_elements::laws::{one_first_fault, one_tree, tree_or_fault};
+use xc_joint::laws::one_kind;
 use xc_names::laws::{names_stand_at_numbers, numbers_tell_names};
 use xc_points::laws::{one_list_of_ends, one_range};
 use xc_report::laws::numbers_are_free;
@@ -23,7 +24,8 @@ pub fn documents_are_one()
 }
 
 /// Words and files have one answer: one text, and one status. The numbers that expanded names get on the way, which the
-/// definitions leave free, change nothing of it.
+/// definitions leave free, change nothing of it. Where the joint part is asked, what stands behind its first line may be
+/// another: there is more than one certificate.
 pub fn answers_are_one()
     ensures { AnswersAreOne }
 {
@@ -40,4 +42,5 @@ pub fn answers_are_one()
     text_or_fault();
     one_fault();
     one_judgement();
+    one_kind();
 }

@@ -5,6 +5,8 @@ mod answer;
 mod certified;
 mod check;
 mod documents;
+mod found;
+mod joint;
 mod judged;
 pub mod laws;
 mod refusals;

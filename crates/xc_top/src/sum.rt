@@ -229,6 +229,6 @@ fn question_of<'a>(sum: &Sum<'a>) -> Question<'a>
     Question {
         report: sum.report,
         mode: sum.mode,
-        goal: Goal::Findings(""),
+        goal: Goal::Findings,
     }
 }

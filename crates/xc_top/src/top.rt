@@ -41,7 +41,8 @@ pub fn run<S: Shelf, O: Sink>(alloc: Global, words: &[String], shelf: &mut S, ou
     ensures proven { IfSome (S.held shelf.old) (λ files. (verify : VerifyWords) → words_of (texts words.now) ≡ Some (VerifyOf verify) →
         result ≡ Status.Sound → IsProven verify files) }
 
-    // There is no other: words and files have one answer, whatever numbers names get on the way.
+    // There is no other: words and files have one answer, whatever numbers names get on the way. Of a joint part the kind
+    // is one, and with it the status; another certificate may stand in it.
     ensures one { AnswersAreOne }
 
     // Only where the files that the words name are held, up to one that is too long.

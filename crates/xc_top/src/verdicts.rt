@@ -5,7 +5,7 @@ ghost use Rattle.xc_bind.specs.Placed.{IsPlaced};
 ghost use Rattle.xc_interval.specs.declared.mode.Mode.{Mode};
 ghost use Rattle.xc_points.specs.Gathered.{ArePoints};
 ghost use Rattle.xc_report.specs.declared.reports.Fact.{Fact};
-ghost use Rattle.xc_top.specs.Judged.{AreVerdicts, status_of, has_finding, is_inconsistent, is_empty_point, is_too_wide};
+ghost use Rattle.xc_top.specs.Findings.{AreVerdicts, status_of, has_finding, is_inconsistent, is_empty_point, is_too_wide};
 
 use crate::Status;
 use std::alloc::Global;
@@ -46,7 +46,8 @@ pub fn status_of(points: &[Point], verdicts: &[Verdict]) -> Status
     }
 }
 
-fn has_finding(points: &[Point], verdicts: &[Verdict]) -> bool
+/// Whether a total disagrees, or no value satisfies a data point.
+pub fn has_finding(points: &[Point], verdicts: &[Verdict]) -> bool
     ensures { result ≡ has_finding points.now verdicts.now }
 {
     any_inconsistent(verdicts) || any_empty(points)
@@ -67,7 +68,8 @@ fn is_inconsistent(verdict: Verdict) -> bool
     }
 }
 
-fn any_too_wide(verdicts: &[Verdict]) -> bool
+/// Whether a binding is too wide.
+pub fn any_too_wide(verdicts: &[Verdict]) -> bool
     ensures { result ≡ list_any is_too_wide verdicts.now }
 {
     verdicts.iter().any(|verdict| is_too_wide(*verdict))

@@ -1,11 +1,12 @@
 -- What borrowed questions say.
-use Rattle.xc_top.specs.Judged.{Asked, Sought, FindingsWith, JudgementOf}
+use Rattle.xc_top.specs.Judged.{Asked, Sought, FindingsAlone, FindingsAndJoint, JudgementOf}
 use Rattle.xc_top.specs.declared.judged.Question.{Question}
 use Rattle.xc_top.specs.declared.judged.Goal.{Goal}
 use Rattle.xc_top.specs.declared.judged.Goal.TheVariants as goal
 
 abbrev pub sought : Goal → Sought
-sought (goal.Findings close) = FindingsWith close.now
+sought goal.Findings = FindingsAlone
+sought goal.Joint = FindingsAndJoint
 sought (goal.Judgement word bytes) = JudgementOf word.now bytes.now
 
 abbrev pub asked : Question → Asked

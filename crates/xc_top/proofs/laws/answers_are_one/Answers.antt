@@ -20,6 +20,6 @@ returns c = λ words files one other h k.
       networks = c.networks_are_one.ensures;
       stated = c.numbers_are_free.ensures.stated;
       facts = c.numbers_are_free.ensures.facts;
-      judges = record { verdict = c.one_verdict.ensures; certifies = certifies };
+      judges = record { verdict = c.one_verdict.ensures; kind = c.one_kind.ensures; certifies = certifies };
     } in
     one_answer below c.documents_are_one.ensures (words_of words) files one other h k

@@ -1,0 +1,109 @@
+-- What is found of facts: their data points, the bindings of the networks, a verdict for each, and what is said of all of them together.
+use Rattle.std.specs.Prelude.{◌≡◌, ◌++◌, ℕ, List, [], ◌∷◌, Bool, true, false, ◌||◌, if◌then◌else◌}
+use Rattle.std.specs.List.{list_any}
+use Rattle.xc_bind.specs.Bindings.{bindings_of}
+use Rattle.xc_bind.specs.Systems.{IsSystemOf}
+use Rattle.xc_bind.specs.declared.types.Binding.{Binding}
+use Rattle.xc_bind.specs.declared.types.Verdict.{Verdict}
+use Rattle.xc_bind.specs.declared.types.Verdict.TheVariants as verdict
+use Rattle.xc_calc.specs.declared.arc.Network.{Network}
+use Rattle.xc_interval.specs.Ranges.{is_empty_range}
+use Rattle.xc_interval.specs.declared.mode.Mode.{Mode}
+use Rattle.xc_joint.specs.Kinds.{Outcome, Answered, Unsettled, IsOutcome, Kind, Solved, Contradicted, Caused, Left, kind_of}
+use Rattle.xc_lines.specs.Findings.{findings}
+use Rattle.xc_lines.specs.Joints.{joint_lines, not_forest_line}
+use Rattle.xc_points.specs.Gathered.{ArePoints}
+use Rattle.xc_points.specs.Kept.{Gathered}
+use Rattle.xc_points.specs.declared.types.Point.{Point}
+use Rattle.xc_report.specs.declared.reports.Fact.{Fact}
+use Rattle.xc_system.specs.Systems.{Constraints, IsSystem}
+use Rattle.xc_top.specs.Answers.{make_answer}
+use Rattle.xc_top.specs.declared.status.Answer.{Answer}
+use Rattle.xc_top.specs.declared.status.Status.{Status}
+use Rattle.xc_top.specs.declared.status.Status.TheVariants.{Sound, Findings, TooWide}
+use Rattle.xc_verdict.specs.Verdicts.{IsVerdict}
+
+-- ---- verdicts
+
+abbrev pub is_inconsistent : Verdict → Bool
+is_inconsistent verdict.Consistent = false
+is_inconsistent verdict.Inconsistent = true
+is_inconsistent verdict.Unjudged = false
+is_inconsistent verdict.TooWide = false
+
+abbrev pub is_too_wide : Verdict → Bool
+is_too_wide verdict.Consistent = false
+is_too_wide verdict.Inconsistent = false
+is_too_wide verdict.Unjudged = false
+is_too_wide verdict.TooWide = true
+
+abbrev pub is_empty_point : Point → Bool
+is_empty_point point = is_empty_range point.range
+
+-- a total disagrees, or no value satisfies a data point
+abbrev pub has_finding : List Point → List Verdict → Bool
+has_finding points verdicts = list_any is_inconsistent verdicts || list_any is_empty_point points
+
+-- findings where there is one; else too wide where a binding is; else sound
+abbrev pub status_of : List Point → List Verdict → Status
+status_of points verdicts = if has_finding points verdicts then Findings else if list_any is_too_wide verdicts then TooWide else Sound
+
+-- one verdict for each binding, in their order
+abbrev pub AreVerdicts : Mode → List Fact → List Point → List Binding → List Verdict → Type 0
+AreVerdicts mode facts points [] [] = Unit {0}
+AreVerdicts mode facts points [] (v ∷ verdicts) = ⊥
+AreVerdicts mode facts points (binding ∷ bindings) [] = ⊥
+AreVerdicts mode facts points (binding ∷ bindings) (v ∷ verdicts) = IsVerdict mode facts points binding v × AreVerdicts mode facts points bindings verdicts
+
+-- what is written of points, bindings and verdicts
+abbrev pub findings_of : Mode → List Network → List Fact → List Point → List Verdict → List ℕ
+findings_of mode networks facts points verdicts = findings mode facts networks points (bindings_of networks points) verdicts
+
+-- the findings of facts
+pub record IsFindings (mode : Mode) (networks : List Network) (facts : List Fact) (answer : Answer) : Type 0 where
+  pub points : Gathered
+  pub points_are : ArePoints mode facts points
+  pub verdicts : List Verdict
+  pub verdicts_are : AreVerdicts mode facts points.points (bindings_of networks points.points) verdicts
+  pub is : answer ≡ make_answer (status_of points.points verdicts) (findings_of mode networks facts points.points verdicts)
+
+-- ---- the joint part
+
+-- no assignment satisfies all
+abbrev pub is_contradicted : Kind → Bool
+is_contradicted Solved = false
+is_contradicted Contradicted = true
+is_contradicted Caused = false
+is_contradicted (Left k) = false
+
+-- some component has no answer
+abbrev pub is_caused : Kind → Bool
+is_caused Solved = false
+is_caused Contradicted = false
+is_caused Caused = true
+is_caused (Left k) = false
+
+-- findings where there is one, or no assignment satisfies all; else too wide where a binding is, or some component has no answer; else sound
+abbrev pub joint_status : List Point → List Verdict → Kind → Status
+joint_status points verdicts kind =
+    if has_finding points verdicts || is_contradicted kind then Findings
+    else if list_any is_too_wide verdicts || is_caused kind then TooWide
+    else Sound
+
+-- what is written of all points together
+abbrev pub outcome_lines : List Fact → Outcome → List ℕ
+outcome_lines facts (Answered joint) = joint_lines facts joint
+outcome_lines facts (Unsettled k) = not_forest_line k
+
+-- the findings of facts, and behind them what is said of the system of their points and bindings
+pub record IsJointFindings (mode : Mode) (networks : List Network) (facts : List Fact) (answer : Answer) : Type 0 where
+  pub points : Gathered
+  pub points_are : ArePoints mode facts points
+  pub verdicts : List Verdict
+  pub verdicts_are : AreVerdicts mode facts points.points (bindings_of networks points.points) verdicts
+  pub system : Constraints
+  pub system_is : IsSystemOf points (bindings_of networks points.points) system
+  pub kept : IsSystem system
+  pub outcome : Outcome
+  pub outcome_is : IsOutcome system outcome
+  pub is : answer ≡ make_answer (joint_status points.points verdicts (kind_of outcome)) (findings_of mode networks facts points.points verdicts ++ outcome_lines facts outcome)

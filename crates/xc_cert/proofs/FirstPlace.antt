@@ -8,7 +8,8 @@ use Rattle.std.proofs.lemmas.List.{take-append-drop, take_rest, get_or-take}
 use Rattle.std.proofs.lemmas.List.Elements.{All-from_get_or, recursion_from_All}
 use Rattle.std.proofs.lemmas.List.Quantifiers.{position-Some}
 use Rattle.std.proofs.lemmas.List.Sums.{fails_before_first}
-use Rattle.xc_cert.specs.Steps.Lines.{Lacks, IsCut}
+use Rattle.xc_cert.specs.Steps.Lines.{IsCut}
+use Rattle.xc_lists.specs.Members.{Lacks}
 
 module _ (byte : ℕ) (text : List ℕ) where
   -- none of the first n is the byte

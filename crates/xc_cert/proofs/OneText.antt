@@ -8,7 +8,8 @@ use Rattle.xc_cert.specs.Faults.{Begin, IsFaultAt}
 use Rattle.xc_cert.specs.Laws.{OneCertificate, TextOrFault, OneFault, WrittenIsText, PassedTextsJoin}
 use Rattle.xc_cert.specs.Steps.Reading.{Gathered, nothing, Leads, ended}
 use Rattle.xc_cert.proofs.Cutting.{text_of-append, Continues, lines_meet, lines_within, lines_whole}
-use Rattle.xc_cert.proofs.Lacking.{all_append, all_back, lacks_append, lacks_by, decimal_lacks, spelling_lacks}
+use Rattle.xc_cert.proofs.Lacking.{spelling_lacks}
+use Rattle.xc_lists.proofs.Lacking.{all_append, all_back, lacks_append, lacks_by, decimal_lacks}
 use Rattle.xc_cert.proofs.Leading.{leads_same, leads_split, done, ended_done, complete}
 use Rattle.xc_cert.proofs.Saying.{few}
 use Rattle.xc_decimal.specs.Laws.{HasOneSpelling}

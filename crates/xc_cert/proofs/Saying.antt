@@ -3,13 +3,14 @@ use Rattle.std.proofs.Common.{◌≡◌, ◌≢◌, ℕ, ◌<◌, ◌^◌, List,
 use Rattle.std.specs.Prelude.{◌↔◌, codes, decimal}
 use Rattle.std.proofs.lemmas.Fmt.{decimal_injective}
 use Rattle.xc_cert.specs.Certificates.{opening, numbered_line}
-use Rattle.xc_cert.specs.Steps.Lines.{Lacks, IsCut, IsWord, IsNumber, IsNumbered, HasNumber, Says, word_text}
+use Rattle.xc_cert.specs.Steps.Lines.{IsCut, IsWord, IsNumber, IsNumbered, HasNumber, Says, word_text}
+use Rattle.xc_lists.specs.Members.{Lacks}
 use Rattle.xc_cert.specs.declared.line.Line.{Line}
 use Rattle.xc_cert.specs.declared.line.Line.TheVariants.{Opening, Feasible, Infeasible, End, Numbered, Other}
 use Rattle.xc_cert.specs.declared.line.Word.{Word}
 use Rattle.xc_cert.specs.declared.line.Word.TheVariants.{Value, Binding, Low, High}
 use Rattle.xc_cert.proofs.Cutting.{cut_same, not_there}
-use Rattle.xc_cert.proofs.Lacking.{lacks_by, decimal_lacks}
+use Rattle.xc_lists.proofs.Lacking.{lacks_by, decimal_lacks}
 use Rattle.xc_decimal.specs.Laws.{HasOneSpelling}
 use Rattle.xc_decimal.specs.Spelling.{spelling}
 use Rattle.xc_model.specs.Ratio.{Ratio}

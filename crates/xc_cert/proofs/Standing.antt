@@ -11,7 +11,7 @@ use Rattle.xc_cert.specs.declared.line.Line.TheVariants as line
 use Rattle.xc_cert.specs.declared.line.Word.TheVariants.{Value, Binding, Low, High}
 use Rattle.xc_cert.specs.declared.reader.Stage.{Stage}
 use Rattle.xc_cert.specs.declared.reader.Stage.TheVariants.{Before, Opened, Values, Bindings, Lows, Highs, Solved, Refuted}
-use Rattle.xc_cert.proofs.Lacking.{all_append}
+use Rattle.xc_lists.proofs.Lacking.{all_append}
 use Rattle.xc_cert.proofs.Saying.{says_same}
 use Rattle.xc_cert.proofs.Taking.{NoLists, IsSound, Adds, added, passed, Taken, lines_at, lines_of, value_taken, high_taken, low_taken, binding_taken}
 use Rattle.xc_decimal.specs.Laws.{HasOneSpelling}

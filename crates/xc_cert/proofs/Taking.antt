@@ -14,7 +14,7 @@ use Rattle.xc_cert.specs.declared.line.Line.TheVariants as line
 use Rattle.xc_cert.specs.declared.line.Word.TheVariants.{Value, Binding, Low, High}
 use Rattle.xc_cert.specs.declared.reader.Stage.{Stage}
 use Rattle.xc_cert.specs.declared.reader.Stage.TheVariants.{Before, Opened, Values, Bindings, Lows, Highs, Solved, Refuted}
-use Rattle.xc_cert.proofs.Lacking.{all_append}
+use Rattle.xc_lists.proofs.Lacking.{all_append}
 use Rattle.xc_cert.proofs.Listing.{ascends_more}
 use Rattle.xc_model.specs.Ratio.{Ratio}
 use Rattle.xc_system.specs.Kept.{IsRefutation}

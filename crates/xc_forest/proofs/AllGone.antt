@@ -1,7 +1,7 @@
 -- Where a thin listing exists, every vertex is taken away.
 use Rattle.std.proofs.Common.{◌≡◌, ℕ, zero, suc, ◌<◌, ◌≤◌, List, [], ◌∷◌, length, ◌⊎◌, inl, inr, sym, ◌∙◌, arith, subst}
 use Rattle.std.proofs.lemmas.Bool.{cases_eq}
-use Rattle.xc_forest.specs.Forests.{IsIn}
+use Rattle.xc_lists.specs.Members.{IsIn}
 use Rattle.xc_forest.specs.Steps.Edges.{Edge, IsEdgeIn, degree, Joins, AreProper, at, IsGone, IsPeeling}
 use Rattle.xc_forest.proofs.LastEdges.{proper_from, AreTwo, two_edges}
 

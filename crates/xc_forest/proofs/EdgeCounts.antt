@@ -2,11 +2,12 @@
 use Rattle.std.proofs.Common.{◌≡◌, ℕ, suc, ◌+◌, ◌*◌, ◌^◌, ◌<◌, ◌≤◌, List, [], ◌∷◌, ◌++◌, length, ◌⊎◌, inl, inr, refl, sym, arith, cond, eqb, subst, Bool, true, false}
 use Rattle.std.proofs.lemmas.Bool.{cases_eq, eq-eqb, ne_eqb}
 use Rattle.std.proofs.lemmas.List.{length-map}
-use Rattle.xc_forest.proofs.Cases.{lt_or_le}
-use Rattle.xc_forest.specs.Forests.{IsIn, IsOnce, points_of, AreRows}
+use Rattle.xc_model.proofs.Integers.{lt_or_le}
+use Rattle.xc_forest.specs.Forests.{points_of, AreRows}
+use Rattle.xc_lists.specs.Members.{IsIn, IsOnce}
 use Rattle.xc_forest.specs.Steps.Edges.{edges_of_row, edges_from, degree, others, minuses, pairs, AreFew}
 use Rattle.xc_forest.proofs.EdgeLists.{degree_append, others_append, minuses_append, pairs_append}
-use Rattle.xc_forest.proofs.Onces.{once_length}
+use Rattle.xc_lists.proofs.Onces.{once_length}
 
 at_most : (b : Bool) (k : ℕ) → cond b k 0 ≤ k
 at_most true k = omega arith

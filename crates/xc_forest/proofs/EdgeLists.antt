@@ -1,6 +1,7 @@
 -- The edges of rows.
 use Rattle.std.proofs.Common.{◌≡◌, ℕ, zero, suc, ◌+◌, ◌<◌, ◌≤◌, List, [], ◌∷◌, ◌++◌, length, ◌⊎◌, inl, inr, ap, arith, subst, Bool}
-use Rattle.xc_forest.specs.Forests.{IsIn, points_of, row_at, AreRows}
+use Rattle.xc_forest.specs.Forests.{points_of, row_at, AreRows}
+use Rattle.xc_lists.specs.Members.{IsIn}
 use Rattle.xc_forest.specs.Steps.Edges.{Edge, edges_of_row, edges_from, IsEdgeIn, degree, others, minuses, pairs, AreProper}
 
 -- ---- lists

@@ -1,7 +1,8 @@
 -- The definitions on a small forest: two points, and a row that says that they have one value.
 use Rattle.std.proofs.Common.{◌≡◌, ℕ, zero, suc, ◌+◌, ◌<◌, Bool, true, false, List, [], ◌∷◌, inl, inr, refl, ℤ, pos, negsuc, ◌+ℤ◌, ◌*ℤ◌, arith}
 use Rattle.std.proofs.lemmas.Int.{ints}
-use Rattle.xc_forest.specs.Forests.{Contradicts, HasNoCycle, IsIn, IsNext, IsUnit, multiplier_at, row_at, row_sum, row_total, sum_below, unit_at}
+use Rattle.xc_forest.specs.Forests.{Contradicts, HasNoCycle, IsNext, IsUnit, multiplier_at, row_at, row_sum, row_total, sum_below, unit_at}
+use Rattle.xc_lists.specs.Members.{IsIn}
 use Rattle.xc_interval.specs.declared.ends.End.TheVariants.{Closed}
 use Rattle.xc_interval.specs.declared.interval.Interval.{Interval}
 use Rattle.xc_model.specs.Fraction.{whole}

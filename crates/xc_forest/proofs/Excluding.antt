@@ -6,7 +6,8 @@ use Rattle.std.proofs.lemmas.Nat.Gcd.{dvd_trans}
 use Rattle.std.proofs.Math.Nat.{mul-pos, dvd-mul_left, dvd-mul_right}
 use Prim.Native.Nat.{◌∣◌}
 use lib.IntN.{zero-*ℤ}
-use Rattle.xc_forest.specs.Forests.{AreRows, Contradicts, IsIn, IsUnit, range_at, row_at, row_total, row_sum, turn, unit_at, points_of, sum_below, named_end, multiplier_at}
+use Rattle.xc_forest.specs.Forests.{AreRows, Contradicts, IsUnit, range_at, row_at, row_total, row_sum, turn, unit_at, points_of, sum_below, named_end, multiplier_at}
+use Rattle.xc_lists.specs.Members.{IsIn}
 use Rattle.xc_forest.specs.Laws.{Meets, ContradictionsExclude}
 use Rattle.xc_forest.specs.Steps.Scaled.{scale_of_pair, scale_of, whole_over}
 use Rattle.xc_forest.specs.Steps.Vertices.{◌≺◌, ◌≼◌, no_parts, Span, part, bound}

@@ -4,7 +4,6 @@ pub mod EdgeLists
 pub mod LastEdges
 pub mod LinkFacts
 pub mod LoneSteps
-pub mod Onces
 pub mod PairOrder
 pub mod Peelings
 pub mod PointSteps
@@ -28,5 +27,4 @@ pub mod Refutings
 pub mod Results
 pub mod Widths
 pub mod Excluding
-pub mod Cases
 pub mod Examples

@@ -1,8 +1,9 @@
 -- The order in which all vertices of a forest are taken away, with the last neighbour of each.
 use Rattle.std.proofs.Common.{◌≡◌, ℕ, zero, suc, ◌+◌, ◌<◌, ◌≤◌, Bool, true, false, List, [], ◌∷◌, length, drop, get_or, pos, ◌⊎◌, inl, inr, refl, sym, arith, ap, ◌∙◌, eqb, subst}
 use Rattle.std.proofs.lemmas.Bool.{cases_eq, false≢true, eq-eqb, ne_eqb}
-use Rattle.xc_forest.proofs.Cases.{lt_or_le}
-use Rattle.xc_forest.specs.Forests.{IsIn, AreRows, IsThin, HasNoCycle}
+use Rattle.xc_model.proofs.Integers.{lt_or_le}
+use Rattle.xc_forest.specs.Forests.{AreRows, IsThin, HasNoCycle}
+use Rattle.xc_lists.specs.Members.{IsIn}
 use Rattle.xc_forest.specs.declared.links.Link.{Link}
 use Rattle.xc_forest.specs.declared.tallies.Tally.{Tally}
 use Rattle.xc_forest.specs.Steps.Edges.{Edge, edges_from, IsEdgeIn, degree, Joins, AreProper, at, IsGone, IsPeeling, IsPeeled}
@@ -12,7 +13,8 @@ use Rattle.xc_forest.proofs.AllGone.{IsEdgeThin, is_gone, all_gone}
 use Rattle.xc_forest.proofs.EdgeLists.{edge_ends, are_proper}
 use Rattle.xc_forest.proofs.LastEdges.{away, IsLast}
 use Rattle.xc_forest.specs.Steps.Counted.{bit}
-use Rattle.xc_forest.proofs.Onces.{at_place, behind}
+use Rattle.xc_lists.proofs.Members.{is_in_at}
+use Rattle.xc_lists.proofs.Onces.{behind}
 use Rattle.xc_forest.proofs.Peelings.{IsTurn, tally_at, IsLonger}
 use Rattle.xc_forest.proofs.Weights.{next_of_edge, edge_of_point, weigh_edge, weigh_none, row_true, row_false}
 
@@ -125,7 +127,7 @@ module _ (n : ℕ) (rows : List (List (ℕ × Bool))) (good : AreRows n rows) wh
             go (inl o) = elim (cases_eq j k) [ inl q ↦ absurd (m (sym e ∙ ap (λ (i : ℕ). at order i) q)) | inr q ↦ absurd (g (j, omega arith, e)) ]
 
         later : (xs : List ℕ) (i j : ℕ) → i ≤ j → j < length xs → get_or xs j 0 ≡ y → IsIn y (drop i xs)
-        later xs zero j o p e = subst (λ (v : ℕ). IsIn v xs) e (at_place xs j p)
+        later xs zero j o p e = subst (λ (v : ℕ). IsIn v xs) e (is_in_at xs j p)
         later [] (suc i) j o p e = absurd (omega arith)
         later (x ∷ xs) (suc i) zero o p e = absurd (omega arith)
         later (x ∷ xs) (suc i) (suc j) o p e = later xs i j (omega arith) (omega arith) e

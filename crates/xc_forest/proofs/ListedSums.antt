@@ -3,7 +3,8 @@ use Rattle.std.proofs.Common.{◌≢◌, ◌≡◌, ℕ, zero, suc, ◌+◌, ◌
 use Rattle.std.proofs.lemmas.Int.{ints}
 use Rattle.std.proofs.lemmas.Bool.{cases_eq, eq-eqb, ne_eqb, false≢true}
 use lib.IntN.{zero-*ℤ}
-use Rattle.xc_forest.specs.Forests.{IsIn, IsOnce, AreRows, row_at, row_sum, unit_at, points_of, turn, sum_below}
+use Rattle.xc_forest.specs.Forests.{AreRows, row_at, row_sum, unit_at, points_of, turn, sum_below}
+use Rattle.xc_lists.specs.Members.{IsIn, IsOnce}
 use Rattle.xc_forest.specs.Steps.Links.{is_row_of, weigh_of}
 use Rattle.xc_forest.specs.Steps.Vertices.{sum_over}
 use Rattle.xc_forest.proofs.Sums.{sum_same, sum_zero, sum_single}

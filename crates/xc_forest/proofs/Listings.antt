@@ -4,15 +4,17 @@ use Rattle.std.proofs.lemmas.Bool.{cases_eq}
 use Rattle.std.proofs.lemmas.List.{length-map, get_or-map, get_or_append_left, get_or_push, length_push, ext_get_or, drop-map}
 use Rattle.std.proofs.Math.ListN.{drop_of_length-le}
 use Rattle.std.proofs.Math.Seq.{take-append_seam}
-use Rattle.xc_forest.proofs.Cases.{lt_or_le}
-use Rattle.xc_forest.specs.Forests.{IsIn, AreRows, HasNoCycle}
+use Rattle.xc_model.proofs.Integers.{lt_or_le}
+use Rattle.xc_forest.specs.Forests.{AreRows, HasNoCycle}
+use Rattle.xc_lists.specs.Members.{IsIn}
 use Rattle.xc_forest.specs.declared.links.Link.{Link}
 use Rattle.xc_forest.specs.declared.tallies.Tally.{Tally}
 use Rattle.xc_forest.specs.Steps.Edges.{Edge, edges_from, at, IsPeeling, IsPeeled, AreTallies}
 use Rattle.xc_forest.specs.Steps.Links.{graph_of, vertices, IsLinkTo, AreLinks, IsListing, IsLinkAt, AreLinksOf, AreLeaves}
 use Rattle.xc_forest.proofs.EdgeCounts.{rows_pairs}
 use Rattle.xc_forest.proofs.LinkFacts.{link_longer, link_to, each_gone}
-use Rattle.xc_forest.proofs.Onces.{once_length, once_from_places, place_of, at_place}
+use Rattle.xc_lists.proofs.Members.{is_in_at, place_of}
+use Rattle.xc_lists.proofs.Onces.{once_from_places, once_length}
 use Rattle.xc_forest.proofs.Peelings.{IsLonger}
 
 -- what a slice of a vector leaves in it
@@ -100,7 +102,7 @@ module _ (n : ℕ) (rows : List (List (ℕ × Bool))) (good : AreRows n rows) (a
   listing = record {
     once = rw vertices_are (once_from_places order h.once);
     known = λ v i. known v (subst (λ (vs : List ℕ). IsIn v vs) vertices_are i);
-    all = λ v l. let g = each_gone n rows good order left h acyclic v l in subst (λ (vs : List ℕ). IsIn v vs) (sym vertices_are) (subst (λ (x : ℕ). IsIn x order) g.2 (at_place order g.0 g.1));
+    all = λ v l. let g = each_gone n rows good order left h acyclic v l in subst (λ (vs : List ℕ). IsIn v vs) (sym vertices_are) (subst (λ (x : ℕ). IsIn x order) g.2 (is_in_at order g.0 g.1));
     each = all_links links 0 refl;
   }
     where

@@ -3,7 +3,8 @@ use Rattle.std.proofs.Common.{◌≡◌, ◌≢◌, ℕ, Bool, true, false, List
 use Rattle.std.proofs.lemmas.Int.{ints}
 use Rattle.std.proofs.lemmas.Bool.{cases_eq, false≢true}
 use Rattle.xc_model.specs.Parts.{WholeParts}
-use Rattle.xc_forest.specs.Forests.{IsIn, IsOnce, Neither, turn, IsUnit}
+use Rattle.xc_forest.specs.Forests.{Neither, turn, IsUnit}
+use Rattle.xc_lists.specs.Members.{IsIn, IsOnce}
 use Rattle.xc_forest.specs.Steps.Vertices.{◌≺◌, sum_over, part, Span, IsWithin, worth, Graph, IsSumWithout, IsEnd, IsLeafRow, IsAlone, Settles, Refutes, bound}
 use Rattle.xc_forest.proofs.Sums.{sum_same, sum_zero, sum_single, apart}
 use Rattle.xc_forest.proofs.Points.{put, put_same, put_other}

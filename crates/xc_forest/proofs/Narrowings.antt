@@ -4,7 +4,8 @@ use Rattle.std.specs.Prelude.{reverse}
 use Rattle.std.proofs.lemmas.Int.{ints}
 use Rattle.std.proofs.lemmas.Bool.{cases_eq, false≢true}
 use Rattle.std.proofs.lemmas.List.{reverse-append, get_or-set_same, get_or-set_other, length-set, length-map}
-use Rattle.xc_forest.specs.Forests.{IsIn, IsOnce, HasRoom, IsUnit, IsSignedSum, turn, ranges_of}
+use Rattle.xc_forest.specs.Forests.{HasRoom, IsUnit, IsSignedSum, turn, ranges_of}
+use Rattle.xc_lists.specs.Members.{IsIn, IsOnce}
 use Rattle.xc_forest.specs.Steps.Links.{graph_of, link_at, vertices, IsLinkBy, IsLinkTo, AreLinks, IsListing}
 use Rattle.xc_forest.specs.Steps.Scaled.{scale_of, first_spans, AreBoundsOver, AreSpansOver}
 use Rattle.xc_forest.specs.Steps.Spans.{CanLessen, TellsLess}

@@ -2,7 +2,7 @@
 use Rattle.std.proofs.Common.{◌≡◌, ℕ, ◌+◌, ◌<◌, ◌≤◌, List, [], ◌∷◌, ◌++◌, length, get_or, set, ◌-◌, ◌⊎◌, inl, inr, refl, sym, ap, ◌∙◌, arith, subst}
 use Rattle.std.proofs.lemmas.Bool.{cases_eq}
 use Rattle.std.proofs.lemmas.List.{get_or_append_left, get_or_push, length_push, get_or-set_same, get_or-set_other, length-set}
-use Rattle.xc_forest.proofs.Cases.{lt_or_le}
+use Rattle.xc_model.proofs.Integers.{lt_or_le}
 use Rattle.xc_forest.specs.declared.tallies.Tally.{Tally}
 use Rattle.xc_forest.specs.Steps.Edges.{Edge, IsEdgeIn, degree, others, minuses, AreProper, at, IsGone, IsPeeling, IsTally, AreTallies, IsPeeled}
 use Rattle.xc_forest.proofs.LastEdges.{away, nothing_at, proper_from, last_edge, IsLast}

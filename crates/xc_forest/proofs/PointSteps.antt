@@ -4,7 +4,8 @@ use Rattle.std.proofs.lemmas.Int.{ints}
 use Rattle.std.proofs.lemmas.Bool.{cases_eq, false≢true}
 use lib.IntN.{zero-*ℤ}
 use Rattle.xc_model.specs.Parts.{WholeParts}
-use Rattle.xc_forest.specs.Forests.{IsIn, IsOnce, Choice, Plus, Minus, turn, IsUnit}
+use Rattle.xc_forest.specs.Forests.{Choice, Plus, Minus, turn, IsUnit}
+use Rattle.xc_lists.specs.Members.{IsIn, IsOnce}
 use Rattle.xc_forest.specs.Steps.Vertices.{sum_over, part, Span, end, IsWithin, worth, lessened, weight, Graph, IsSumWithout, IsEnd, IsLeafPoint, Settles, Refutes, bound}
 use Rattle.xc_forest.proofs.Sums.{sum_same, sum_single, sum_change, apart}
 use Rattle.xc_forest.specs.Steps.Splits.{IsRest, IsSplit}

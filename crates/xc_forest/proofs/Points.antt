@@ -3,7 +3,8 @@ use Rattle.std.proofs.Common.{◌≡◌, ◌≢◌, ℕ, Bool, true, false, not,
 use Rattle.std.proofs.lemmas.Int.{ints}
 use Rattle.xc_model.specs.Parts.{WholeParts}
 use Rattle.std.proofs.lemmas.Bool.{eq-eqb, ne_eqb}
-use Rattle.xc_forest.specs.Forests.{IsIn, IsOnce, Choice, Neither, Plus, Minus, turn}
+use Rattle.xc_forest.specs.Forests.{Choice, Neither, Plus, Minus, turn}
+use Rattle.xc_lists.specs.Members.{IsIn, IsOnce}
 use Rattle.xc_forest.specs.Steps.Vertices.{sum_over, part, Span, worth, lessened, Graph, IsSumWithout, IsLeafPoint}
 use Rattle.xc_forest.proofs.Sums.{sum_same, sum_change, apart}
 

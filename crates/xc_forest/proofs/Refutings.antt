@@ -4,8 +4,9 @@ use Rattle.std.specs.Prelude.{reverse}
 use Rattle.std.proofs.lemmas.Int.{ints}
 use Rattle.std.proofs.lemmas.Bool.{cases_eq, eq-eqb, ne_eqb}
 use Rattle.std.proofs.lemmas.List.{get_or-set_same, get_or-set_other, length-set, get_or_append_left, get_or_push, get_or_past, length_push}
-use Rattle.xc_forest.proofs.Cases.{lt_or_le}
-use Rattle.xc_forest.specs.Forests.{IsIn, IsUnit, multiplier_at, turn, ranges_of}
+use Rattle.xc_model.proofs.Integers.{lt_or_le}
+use Rattle.xc_forest.specs.Forests.{IsUnit, multiplier_at, turn, ranges_of}
+use Rattle.xc_lists.specs.Members.{IsIn}
 use Rattle.xc_forest.specs.Steps.Links.{graph_of, vertices, IsListing}
 use Rattle.xc_forest.specs.Steps.Scaled.{scale_of, first_spans}
 use Rattle.xc_forest.specs.Steps.Shares.{IsShare, IsShareOf, AreZero}

@@ -3,8 +3,9 @@ use Rattle.std.proofs.Common.{◌≡◌, ℕ, zero, suc, ◌+◌, ◌<◌, ◌�
 use Rattle.std.proofs.Math.Seq.{drop-length}
 use Rattle.std.proofs.lemmas.Int.{ints}
 use Rattle.std.proofs.lemmas.List.{length-map, length-take-le, length-drop, get_or-map, get_or-take, get_or-drop, get_or_past}
-use Rattle.xc_forest.proofs.Cases.{lt_or_le}
-use Rattle.xc_forest.specs.Forests.{IsIn, AreRows, AreRanges, Solves, Contradicts, IsUnit, range_at, ranges_of, row_at, row_total, row_sum, signed, turn, unit_at, value_at, sum_below, named_end, multiplier_at, points_of}
+use Rattle.xc_model.proofs.Integers.{lt_or_le, mul_comm, scale_lt}
+use Rattle.xc_forest.specs.Forests.{AreRows, AreRanges, Solves, Contradicts, IsUnit, range_at, ranges_of, row_at, row_total, row_sum, signed, turn, unit_at, value_at, sum_below, named_end, multiplier_at, points_of}
+use Rattle.xc_lists.specs.Members.{IsIn}
 use Rattle.xc_forest.specs.Steps.Links.{graph_of, weigh_of, vertices, IsListing}
 use Rattle.xc_forest.specs.Steps.Scaled.{scale_of, first_spans, AreSpansOver, AreValuesOver}
 use Rattle.xc_forest.specs.Steps.Trails.{IsTrail, start, IsTrailOf, IsNarrowed, AreAllTaken, AreSettled, AreRefuted}
@@ -28,7 +29,6 @@ use Rattle.xc_interval.specs.declared.ends.End.TheVariants.{Closed, Open}
 use Rattle.xc_interval.specs.declared.interval.Interval.{Interval}
 use Rattle.xc_model.specs.Fraction.{Fraction, SameNumber, IsBelow, IsNumberOver}
 use Rattle.xc_model.specs.Parts.{Parts, SameParts, IsLess, WholeParts, ArePartsOver, zero_parts}
-use Rattle.xc_model.proofs.Integers.{scale_lt, mul_comm}
 use Rattle.xc_model.proofs.Numbers.{same-sym, same-trans, below-same}
 use Rattle.xc_model.proofs.NumbersOver.{number_same}
 use Rattle.xc_model.proofs.Over.{ratio}

@@ -1,6 +1,7 @@
 -- What is a sum of the first spans' ends is a signed sum of the forest.
 use Rattle.std.proofs.Common.{◌≡◌, ℕ, ◌+◌, ◌<◌, Bool, true, false, List, length, pos, refl, ap, ◌∙◌}
-use Rattle.xc_forest.specs.Forests.{IsIn, IsOnce, Choice, Neither, Plus, Minus, IsSignedSum, range_at, sum_below, worth_of}
+use Rattle.xc_forest.specs.Forests.{Choice, Neither, Plus, Minus, IsSignedSum, range_at, sum_below, worth_of}
+use Rattle.xc_lists.specs.Members.{IsIn, IsOnce}
 use Rattle.xc_forest.specs.Steps.Scaled.{scale_of, first_spans}
 use Rattle.xc_forest.specs.Steps.Vertices.{sum_over, part, no_span, worth, IsSum}
 use Rattle.xc_forest.proofs.ListedSums.{points_listed}

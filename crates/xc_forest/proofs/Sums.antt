@@ -1,7 +1,7 @@
 -- Laws of sums over a list of vertices.
 use Rattle.std.proofs.Common.{◌≡◌, ◌≢◌, ℕ, List, [], ◌∷◌, ℤ, pos, ◌+ℤ◌, inl, inr, refl, sym, subst, arith}
 use Rattle.std.proofs.lemmas.Int.{ints}
-use Rattle.xc_forest.specs.Forests.{IsIn, IsOnce}
+use Rattle.xc_lists.specs.Members.{IsIn, IsOnce}
 use Rattle.xc_forest.specs.Steps.Vertices.{sum_over}
 
 pub sum_same : (vs : List ℕ) (f g : ℕ → ℤ) → ((v : ℕ) → IsIn v vs → f v ≡ g v) → sum_over vs f ≡ sum_over vs g

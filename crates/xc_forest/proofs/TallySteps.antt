@@ -3,7 +3,8 @@ use Rattle.std.proofs.Common.{◌≡◌, ℕ, zero, suc, false, ◌+◌, ◌<◌
 use Rattle.std.proofs.lemmas.Bool.{cases_eq}
 use Rattle.std.proofs.lemmas.List.{get_or_read, get_or-set_same, get_or-set_other, length-set}
 use Rattle.xc_forest.specs.declared.tallies.Tally.{Tally}
-use Rattle.xc_forest.specs.Forests.{IsIn, points_of, row_at, AreRows}
+use Rattle.xc_forest.specs.Forests.{points_of, row_at, AreRows}
+use Rattle.xc_lists.specs.Members.{IsIn}
 use Rattle.xc_forest.specs.Steps.Counted.{counted, tally_at, bit, HasRoomAt}
 use Rattle.xc_forest.specs.Steps.Edges.{Edge, edges_from, edges_of_row, Joins, AreTalliesWith, IsTallyWith, AreFew, AreTallies}
 use Rattle.xc_forest.proofs.LastEdges.{one_at, one_away}

@@ -1,7 +1,8 @@
 -- Every end that is met on the way is a sum of the first ends.
 use Rattle.std.proofs.Common.{◌≡◌, ◌≢◌, ℕ, Bool, List, ◌∷◌, ◌⊎◌, pos, ◌+ℤ◌, inl, inr, sym, arith, ◌∙◌}
 use Rattle.std.proofs.lemmas.Int.{ints}
-use Rattle.xc_forest.specs.Forests.{IsIn, IsOnce, Neither, Plus}
+use Rattle.xc_forest.specs.Forests.{Neither, Plus}
+use Rattle.xc_lists.specs.Members.{IsIn, IsOnce}
 use Rattle.xc_forest.specs.Steps.Trails.{IsTrail, start, took_point, took_row, took_alone}
 use Rattle.xc_forest.specs.Steps.Vertices.{sum_over, Span, end, worth, lessened, turned, Graph, IsMeet, IsLeafPoint, IsLeafRow, IsSum, IsEnd, IsSumWithout}
 use Rattle.xc_forest.specs.declared.undos.Undo.{Undo}

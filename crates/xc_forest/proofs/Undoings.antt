@@ -3,7 +3,8 @@ use Rattle.std.proofs.Common.{◌≡◌, ◌≢◌, ℕ, ◌+◌, ◌<◌, Bool,
 use Rattle.std.specs.Prelude.{reverse}
 use Rattle.std.proofs.lemmas.Bool.{cases_eq, false≢true}
 use Rattle.std.proofs.lemmas.List.{get_or-set_same, get_or-set_other, length-set, get_or_append_left, get_or_push, length_push}
-use Rattle.xc_forest.specs.Forests.{IsIn, IsOnce, HasRoom, IsSignedSum, turn, ranges_of}
+use Rattle.xc_forest.specs.Forests.{HasRoom, IsSignedSum, turn, ranges_of}
+use Rattle.xc_lists.specs.Members.{IsIn, IsOnce}
 use Rattle.xc_forest.specs.Steps.Links.{graph_of, vertices, IsListing}
 use Rattle.xc_forest.specs.Steps.Scaled.{scale_of, first_spans, AreBoundsOver, AreValuesOver}
 use Rattle.xc_forest.specs.Steps.Splits.{AreSplitOver, CanSplit, turned_pair}

@@ -3,7 +3,8 @@ use Rattle.std.proofs.Common.{◌≡◌, ℕ, ◌+◌, ◌-◌, ◌<◌, ◌≤�
 use Rattle.std.proofs.lemmas.Int.{ints}
 use Rattle.std.proofs.lemmas.Bool.{eq-eqb, ne_eqb}
 use Rattle.std.proofs.lemmas.Bool.Decides.{nat_tests}
-use Rattle.xc_forest.specs.Forests.{IsIn, IsOnce, points_of, row_at, row_sum, unit_at, turn, AreRows, IsPointOf, IsNext}
+use Rattle.xc_forest.specs.Forests.{points_of, row_at, row_sum, unit_at, turn, AreRows, IsPointOf, IsNext}
+use Rattle.xc_lists.specs.Members.{IsIn, IsOnce}
 use Rattle.xc_forest.specs.Steps.Edges.{Edge, edges_from, IsEdgeIn, Joins}
 use Rattle.xc_forest.specs.Steps.Links.{is_row_of, weigh_of}
 use Rattle.xc_forest.specs.Steps.Vertices.{weight}

@@ -8,16 +8,7 @@ use Rattle.xc_interval.specs.Intervals.{pairs_of, HasPair, HasNoPair}
 use Rattle.xc_interval.specs.declared.ends.End.TheVariants.{Closed}
 use Rattle.xc_interval.specs.declared.interval.Interval.{Interval}
 use Rattle.xc_model.specs.Parts.{Parts, SameParts, IsLess, zero_parts, neg_parts, sum_parts}
-
--- x is one of the list
-abbrev pub IsIn : {X : Type 0} → X → List X → Type 0
-IsIn x [] = ⊥
-IsIn x (y ∷ ys) = (x ≡ y) ⊎ IsIn x ys
-
--- no two of the list are the same
-abbrev pub IsOnce : {X : Type 0} → List X → Type 0
-IsOnce [] = Unit {0}
-IsOnce (x ∷ xs) = (¬ IsIn x xs) × IsOnce xs
+use Rattle.xc_lists.specs.Members.{IsIn, IsOnce}
 
 -- ---- rows: points with their signs, true for a minus sign
 

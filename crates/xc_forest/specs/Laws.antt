@@ -1,6 +1,6 @@
 -- What follows from the definitions for all forests.
 use Rattle.std.specs.Prelude.{ℕ, zero, suc, ◌+◌, ◌*◌, ◌<◌, ◌≤◌, ◌^◌, Bool, ℤ, List, length, unsigned_abs}
-use Rattle.xc_forest.specs.Forests.{AreRows, Contradicts, HasRoom, range_at, row_at, row_total}
+use Rattle.xc_forest.specs.Forests.{AreRows, Contradicts, HasRoom, parts_below, range_at, row_at, row_total, sum_below}
 use Rattle.xc_frac.specs.declared.wide.Op.{Op}
 use Rattle.xc_frac.specs.declared.wide.Wide.{Wide}
 use Rattle.xc_interval.specs.Ends.{value_of}
@@ -46,3 +46,8 @@ pub record Meets (rows : List (List (ℕ × Bool))) (ranges : List (Interval Par
 -- there are none where multipliers contradict
 abbrev pub ContradictionsExclude : Type 0
 ContradictionsExclude = (rows : List (List (ℕ × Bool))) (ranges : List (Interval Parts)) (by ends : List ℤ) (z : ℕ → Parts) → AreRows (length ranges) rows → Contradicts rows ranges by ends → ¬ Meets rows ranges z
+
+-- over one denominator, sums of pairs have the sums of their parts
+abbrev pub SumsAreOver : Type 0
+SumsAreOver = (n : ℕ) (f : ℕ → Parts) (h : ℕ → WholeParts) (d : ℕ) → 0 < d → ((j : ℕ) → j < n → ArePartsOver (f j) (h j) d)
+    → ArePartsOver (parts_below n f) (record { real = sum_below n (λ j. (h j).real); tiny = sum_below n (λ j. (h j).tiny) }) d

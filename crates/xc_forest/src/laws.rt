@@ -1,6 +1,6 @@
 //! What follows from the definitions for all forests. The functions do nothing: code calls one where its proof
 //! needs the clauses.
-ghost use Rattle.xc_forest.specs.Laws.{ContradictionsExclude, NarrowRangesHaveRoom};
+ghost use Rattle.xc_forest.specs.Laws.{ContradictionsExclude, NarrowRangesHaveRoom, SumsAreOver};
 
 use xc_frac::Exact;
 
@@ -15,4 +15,9 @@ pub fn narrow_ranges_have_room<E: Exact>()
 /// Where multipliers contradict a forest, no values lie in all its ranges and meet all its rows.
 pub fn contradictions_exclude()
     ensures { ContradictionsExclude }
+{}
+
+/// Over one denominator, sums of pairs have the sums of their parts.
+pub fn sums_are_over()
+    ensures { SumsAreOver }
 {}

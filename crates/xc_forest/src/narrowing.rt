@@ -1,6 +1,7 @@
 // The vertices of a forest are taken away, one after another, and the spans of those that are left are narrowed.
 ghost use Rattle.std.specs.Prelude.{◌≡◌, ℕ, ◌+◌, ◌<◌, ◌≤◌, ◌^◌, ◌∷◌, [], ◌++◌, Bool, true, false, not, IfOk, MatchOption, length, drop, slice_index_or, slice_set};
-ghost use Rattle.xc_forest.specs.Forests.{HasRoom, IsIn, ranges_of};
+ghost use Rattle.xc_forest.specs.Forests.{HasRoom, ranges_of};
+ghost use Rattle.xc_lists.specs.Members.{IsIn};
 ghost use Rattle.xc_forest.specs.Steps.Links.{IsListing, graph_of, link_at};
 ghost use Rattle.xc_forest.specs.Steps.Scaled.{AreBoundsOver, AreSpansOver, first_spans, scale_of};
 ghost use Rattle.xc_forest.specs.Steps.Trails.{IsClash, IsNarrowed, point_clash, row_clash};

@@ -11,6 +11,7 @@ use Rattle.xc_interval.specs.Scales.{AreOnScale, saturated}
 use Rattle.xc_interval.specs.declared.ends.End.{End}
 use Rattle.xc_interval.specs.declared.interval.Interval.{Interval}
 use Rattle.xc_interval.specs.declared.range.Range.{Range}
+use Rattle.xc_interval.specs.declared.range.Range.TheVariants.{Meets}
 
 module _ {A : Type 0} (Less Same : A → A → Type 0) where
   -- an interval is empty exactly where nothing lies in it; where it is not, something does
@@ -38,6 +39,10 @@ HasOneInterval = (i j : Interval Ratio) → ¬ HasNoPair (pairs_of frac_parts i)
 -- several intervals give one range
 abbrev pub HasOneRangeOf : Type 0
 HasOneRangeOf = (es : List (Option (Interval Ratio))) (r s : Range) → IsRangeOf es r → IsRangeOf es s → r ≡ s
+
+-- what lies in all of several intervals has a number, where their range is not empty
+abbrev pub RangesHaveNumbers : Type 0
+RangesHaveNumbers = (es : List (Option (Interval Ratio))) (i : Interval Ratio) → IsRangeOf es (Meets i) → (x : Fraction) × HasNumber (numbers_of i) x
 
 -- how ends of one side go by tightness, where an end admits what is past it, or before it
 pub record IsTightness {A : Type 0} (Tighter : End A → End A → Type 0) (Admits : End A → A → Type 0) : Type 0 where

@@ -3,7 +3,7 @@
 ghost use Rattle.xc_model.specs.Fraction.{SameNumber, IsBelow, sum_of};
 ghost use Rattle.xc_model.specs.Parts.{IsLess, SameParts, sum_parts};
 ghost use Rattle.xc_interval.specs.Intervals.{IsPast, IsBefore};
-ghost use Rattle.xc_interval.specs.Laws.{EndsTell, HasSums, HasMultiples, HasRealsAlone, HasOneInterval, HasOneRangeOf, IsTightness, HaveScales, ScalesGrow, SumsStay, ProductsStay};
+ghost use Rattle.xc_interval.specs.Laws.{EndsTell, HasSums, HasMultiples, HasRealsAlone, HasOneInterval, HasOneRangeOf, RangesHaveNumbers, IsTightness, HaveScales, ScalesGrow, SumsStay, ProductsStay};
 ghost use Rattle.xc_interval.specs.Tightest.{IsTighterLow, IsTighterHigh};
 
 use xc_frac::laws::lowest_terms;
@@ -44,6 +44,11 @@ pub fn one_range()
 {
     lowest_terms();
 }
+
+/// A range that several intervals give, and that is not empty, has a number.
+pub fn ranges_have_numbers()
+    ensures { RangesHaveNumbers }
+{}
 
 /// How ends go by tightness.
 pub fn tighter_ends()

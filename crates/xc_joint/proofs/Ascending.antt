@@ -4,7 +4,7 @@ use Rattle.std.proofs.lemmas.Bool.{eq-eqb, eqb-true, ne_eqb}
 use Rattle.std.proofs.lemmas.Int.{ints}
 use Rattle.std.proofs.lemmas.List.Sorted.{sum_by-IsPermutation, IsNonDecreasingBy-from_sort}
 use Rattle.std.proofs.lemmas.List.Elements.{All-from_recursion}
-use Rattle.xc_forest.proofs.Cases.{lt_or_le}
+use Rattle.xc_model.proofs.Integers.{lt_or_le}
 use Rattle.std.proofs.lemmas.List.Sums.{sum_by-cons}
 use Rattle.std.proofs.lemmas.Map.Keys.{sorted_from_strictly_increasing}
 use Rattle.std.specs.List.{AllByRecursion}
@@ -20,10 +20,9 @@ use Rattle.xc_joint.proofs.Each.{each_at, each_length, other_default}
 use Rattle.xc_joint.proofs.ForestRanges.{first_in, known_in}
 use Rattle.xc_interval.specs.declared.interval.Interval.{Interval}
 use Rattle.xc_model.specs.Ratio.{Ratio}
-use Rattle.xc_system.proofs.Joins.{is_in_at}
-use Rattle.xc_system.proofs.Trees.{once_of_ascending}
+use Rattle.xc_lists.proofs.Members.{is_in_at, once_of_ascending}
 use Rattle.xc_system.specs.Kept.{Multipliers, IsRefutation, IsAscending}
-use Rattle.xc_system.specs.Members.{IsIn, IsOnce}
+use Rattle.xc_lists.specs.Members.{IsIn, IsOnce}
 use Rattle.xc_system.specs.Refutations.{IsKnown, IsKnownIn}
 use Rattle.xc_system.specs.Systems.{Constraints, facts_of, point_at, range_at}
 use Rattle.xc_system.specs.declared.types.Component.{Component}

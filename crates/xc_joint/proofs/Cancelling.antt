@@ -22,9 +22,8 @@ use Rattle.xc_model.specs.Fraction.{Fraction, IsNumberOver, whole, sum_of, diffe
 use Rattle.xc_model.specs.Ratio.{Ratio, fraction_of}
 use Rattle.xc_model.proofs.NumbersOver.{sum_number}
 use Rattle.xc_system.specs.Kept.{Multipliers}
-use Rattle.xc_system.specs.Members.{IsIn, IsOnce}
-use Rattle.xc_system.proofs.Joins.{is_in_at}
-use Rattle.xc_system.proofs.Trees.{once_of_ascending}
+use Rattle.xc_lists.specs.Members.{IsIn, IsOnce}
+use Rattle.xc_lists.proofs.Members.{is_in_at, once_of_ascending}
 use Rattle.xc_system.specs.Refutations.{coefficient, total, unit_at}
 use Rattle.xc_system.specs.Solutions.{IsZero, weighed}
 use Rattle.xc_system.specs.Systems.{Constraints, equation_at, facts_of, point_at}

@@ -10,13 +10,13 @@ use Rattle.xc_joint.specs.Solved.{number_at, signed_number}
 use Rattle.xc_joint.specs.Steps.OneForest.{AreEach, IsSignedPlace}
 use Rattle.xc_joint.proofs.Between.{same_over}
 use Rattle.xc_joint.proofs.Disjoint.{more_sum}
-use Rattle.xc_joint.proofs.Lowest.{narrow_ratio}
 use Rattle.xc_joint.proofs.PartValues.{signed_product}
+use Rattle.xc_joint.proofs.Reduced.{reduced}
 use Rattle.xc_joint.proofs.SumSizes.{IsSized, sized_neg}
 use Rattle.xc_model.specs.Fraction.{Fraction, SameNumber, product_of, sum_of}
 use Rattle.xc_model.specs.Ratio.{Ratio, fraction_of}
 use Rattle.xc_model.specs.Width.{IsNarrow, ProductPasses, SumPasses}
-use Rattle.xc_model.proofs.NumbersOver.{lowest_room, number_over-same, sum_number, sum_of_fits}
+use Rattle.xc_model.proofs.NumbersOver.{lowest_room, number_over-same, over_number, sum_number, sum_of_fits}
 use Rattle.xc_system.specs.declared.types.Entry.{Entry}
 use Rattle.xc_verify.specs.Feasible.{equation_terms}
 use Rattle.xc_verify.specs.Sums.{zero_ratio, plus_product, IsSum}
@@ -36,12 +36,13 @@ product_made : (d size : ℕ) (w x : Ratio) → d < 2 ^ 127 → size < 2 ^ 127 �
 product_made d size w x small fits h =
     let s = h.small in
     let narrow : IsNarrow h.whole = omega (arith, s, fits) in
-    let r = narrow_ratio h.whole d h.over.positive narrow small in
+    let r = reduced h.whole d h.over.positive small narrow in
+    let over = over_number r.0 h.whole d r.1 in
     record {
       result = r.0;
-      sized = record { whole = h.whole; over = r.1; small = h.small };
+      sized = record { whole = h.whole; over = over; small = h.small };
       room = λ p. lowest_room p.lowest h.whole d (number_over-same (product_of (fraction_of w) (fraction_of x)) p.lowest h.whole d p.same h.over) narrow small p.wide;
-      gives = same_over (fraction_of r.0) (product_of (fraction_of w) (fraction_of x)) h.whole h.whole d r.1 h.over refl;
+      gives = same_over (fraction_of r.0) (product_of (fraction_of w) (fraction_of x)) h.whole h.whole d over h.over refl;
     }
 
 -- a sum of two that are
@@ -57,12 +58,13 @@ added d a b x y small fits h k =
     let t = k.small in
     let sum : unsigned_abs (h.whole +ℤ k.whole) ≤ a + b = omega (arith, ints, s, t) in
     let narrow : IsNarrow (h.whole +ℤ k.whole) = omega (arith, sum, fits) in
-    let r = narrow_ratio (h.whole +ℤ k.whole) d h.over.positive narrow small in
+    let r = reduced (h.whole +ℤ k.whole) d h.over.positive small narrow in
+    let over = over_number r.0 (h.whole +ℤ k.whole) d r.1 in
     record {
       result = r.0;
-      sized = record { whole = h.whole +ℤ k.whole; over = r.1; small = sum };
+      sized = record { whole = h.whole +ℤ k.whole; over = over; small = sum };
       room = sum_of_fits x y h.whole k.whole d h.over k.over (record { den = small; left = omega (arith, s, fits); right = omega (arith, t, fits); sum = narrow });
-      gives = same_over (fraction_of r.0) (sum_of (fraction_of x) (fraction_of y)) _ _ d r.1 (sum_number (fraction_of x) (fraction_of y) h.whole k.whole d h.over k.over) refl;
+      gives = same_over (fraction_of r.0) (sum_of (fraction_of x) (fraction_of y)) _ _ d over (sum_number (fraction_of x) (fraction_of y) h.whole k.whole d h.over k.over) refl;
     }
 
 module _ (d limit : ℕ) (small : d < 2 ^ 127) (fits : limit < 2 ^ 127) (points : List ℕ) (xs : List Ratio) (long : length xs ≡ length points) (size : ℕ → ℕ) (value : (j : ℕ) → j < length xs → IsSized d (size j) (number_at xs j)) (all : List Ratio) (among : (j : ℕ) → j < length points → slice_get all (get_or points j 0) ≡ Some (get_or xs j zero_ratio)) where

@@ -17,7 +17,7 @@ use Rattle.xc_model.specs.Fraction.{Fraction, IsBelow, SameNumber, whole}
 use Rattle.xc_model.specs.Laws.{IsSingle, IsTotal}
 use Rattle.xc_model.specs.Order.{Orders}
 use Rattle.xc_model.specs.Ratio.{Ratio, fraction_of}
-use Rattle.xc_system.specs.Members.{IsIn}
+use Rattle.xc_lists.specs.Members.{IsIn}
 use Rattle.xc_system.specs.Spots.{HasTighter, IsFirstTightest, high_end, low_end}
 use Rattle.xc_system.specs.Systems.{range_at}
 use Rattle.xc_system.specs.declared.types.Bound.{Bound}

@@ -16,10 +16,10 @@ use Rattle.xc_joint.specs.Causes.{IsEmptyPoint}
 use Rattle.xc_joint.specs.Steps.Empties.{IsEmptyAt, IsFirstFound}
 use Rattle.xc_joint.specs.declared.empties.EmptyPoint.{EmptyPoint}
 use Rattle.xc_model.specs.Ratio.{IsLowest, Ratio}
-use Rattle.xc_system.proofs.Joins.{is_in_at}
+use Rattle.xc_lists.proofs.Members.{is_in_at}
 use Rattle.xc_system.specs.Components.{IsComponent}
 use Rattle.xc_system.specs.Kept.{IsRefutation}
-use Rattle.xc_system.specs.Members.{IsIn}
+use Rattle.xc_lists.specs.Members.{IsIn}
 use Rattle.xc_system.specs.Systems.{Constraints}
 use Rattle.xc_system.specs.declared.types.Component.{Component}
 

@@ -22,16 +22,16 @@ use Rattle.xc_model.proofs.Numbers.{same-neg, same-product, same-refl, same-sum,
 use Rattle.xc_model.specs.Fraction.{Fraction, IsBelow, SameNumber, difference_of, product_of, sum_of, whole}
 use Rattle.xc_model.specs.Laws.{HasOneLowest}
 use Rattle.xc_model.specs.Ratio.{Ratio, fraction_of}
-use Rattle.xc_system.proofs.Places.{in_places}
+use Rattle.xc_lists.proofs.Members.{in_places}
 use Rattle.xc_system.specs.Kept.{Multipliers}
-use Rattle.xc_system.specs.Members.{IsIn}
+use Rattle.xc_lists.specs.Members.{IsIn}
 use Rattle.xc_system.specs.Refutations.{IsContradictionOf, IsKnownIn, IsShort, coefficient, constant, high_at, is_high_open, is_low_open, low_at, unit_at}
 use Rattle.xc_system.specs.Solutions.{IsNegative, IsZero}
 use Rattle.xc_system.specs.Spots.{IsFirstTightest, high_end, low_end}
 use Rattle.xc_system.specs.Systems.{Constraints, facts_of, point_at, range_at}
 use Rattle.xc_system.specs.declared.types.Bound.{Bound}
 use Rattle.xc_system.specs.declared.types.Component.{Component}
-use Rattle.xc_verify.proofs.Amounts.{negative_same, zero_same}
+use Rattle.xc_model.proofs.Signs.{negative_same, zero_same}
 use Rattle.xc_verify.specs.Infeasible.{constant_terms}
 use Rattle.xc_verify.specs.Laws.{HasOneSum}
 use Rattle.xc_verify.specs.Sums.{IsSumOf}

@@ -8,7 +8,7 @@ use Rattle.xc_model.proofs.NumbersOver.{sum_of_fits, difference_of_fits}
 use Rattle.xc_model.specs.Fraction.{IsNumberOver}
 use Rattle.xc_model.specs.Ratio.{Ratio, fraction_of}
 use Rattle.xc_system.specs.Kept.{Multipliers}
-use Rattle.xc_system.specs.Members.{IsIn}
+use Rattle.xc_lists.specs.Members.{IsIn}
 use Rattle.xc_system.specs.Systems.{Constraints, facts_of, point_at}
 use Rattle.xc_system.specs.declared.types.Component.{Component}
 use Rattle.xc_verify.specs.Infeasible.{coefficient_terms, constant_terms}

@@ -17,7 +17,7 @@ use Rattle.xc_joint.specs.declared.solving.Solution.TheVariants.{Numbers}
 use Rattle.xc_model.specs.Ratio.{Ratio}
 use Rattle.xc_system.specs.Components.{IsComponent}
 use Rattle.xc_system.specs.Forests.{EachFact, IsNarrowForest}
-use Rattle.xc_system.specs.Members.{IsIn}
+use Rattle.xc_lists.specs.Members.{IsIn}
 use Rattle.xc_system.specs.Systems.{Constraints, facts_of, range_at}
 use Rattle.xc_system.specs.declared.types.Component.{Component}
 

@@ -5,9 +5,7 @@ use Rattle.xc_interval.specs.Ends.{value_of, end_at}
 use Rattle.xc_interval.specs.Intervals.{frac_parts, pairs_of, numbers_of, HasNoNumber, HasNoPair, HasNumber, IsPast, IsBefore}
 use Rattle.xc_interval.specs.Ranges.{AllKnown, LiesInAll, IsRangeOf as IsRange}
 use Rattle.xc_interval.specs.declared.interval.Interval.{Interval}
-use Rattle.xc_interval.proofs.Emptiness.{tells_numbers}
-use Rattle.xc_interval.proofs.Meeting.{ends_tell}
-use Rattle.xc_interval.proofs.Numbers.{number_dense}
+use Rattle.xc_interval.specs.Laws.{EndsTell, RangesHaveNumbers}
 use Rattle.xc_model.specs.Fraction.{Fraction, SameNumber, IsBelow, whole}
 use Rattle.xc_model.specs.Parts.{Parts}
 use Rattle.xc_model.proofs.Numbers.{same-refl}
@@ -21,7 +19,7 @@ use Rattle.xc_joint.specs.Solved.{HaveNumbers}
 use Rattle.xc_joint.specs.Steps.OneForest.{AreEach, IsBounded, IsSpanOf, IsRangeOf, HasNumberIn}
 use Rattle.xc_joint.specs.declared.one_forest.Span.{Span}
 use Rattle.xc_joint.proofs.Each.{each_length}
-use Rattle.xc_system.specs.Members.{IsIn}
+use Rattle.xc_lists.specs.Members.{IsIn}
 use Rattle.xc_system.specs.Spots.{AreTightest, HasTighter, IsFirstTightest}
 use Rattle.xc_system.specs.Systems.{Constraints, facts_of, range_at}
 use Rattle.xc_system.specs.declared.types.Component.{Component}
@@ -78,16 +76,10 @@ pub record IsMet (s : Constraints) (p low high : ℕ) : Type 0 where
   pub low_first : IsFirstTightest (HasTighter Low s.bounds) (facts_of s.bounds p) low
   pub high_first : IsFirstTightest (HasTighter High s.bounds) (facts_of s.bounds p) high
 
-number_of : (i : Interval Ratio) → ¬ HasNoPair (pairs_of frac_parts i) → (x : Fraction) × HasNumber (numbers_of i) x
-number_of i some = tells_numbers frac_parts (λ e. same-refl (whole (pos 0))) i false (λ e. absurd (false_true e), λ h. absurd (some h))
-  where
-    false_true : false ≡ true → ⊥
-    false_true e = cc
-
-pub met_of : (s : Constraints) (p : ℕ) (range : Range) (low high : ℕ) → AllKnown (map (range_at s.bounds) (facts_of s.bounds p)) → ¬ IsEmptyPoint s p → IsRange (map (range_at s.bounds) (facts_of s.bounds p)) range → AreTightest s.bounds (facts_of s.bounds p) range low high → IsMet s p low high
-met_of s p range.Wide low high known some is tight = absurd (is known)
-met_of s p range.Empty low high known some is tight = absurd (some is)
-met_of s p (range.Meets i) low high known some is tight = let x = number_of i is.some in record { some = (x.0, (is.numbers x.0).0 x.1); low_first = tight.0; high_first = tight.1 }
+pub met_of : RangesHaveNumbers → (s : Constraints) (p : ℕ) (range : Range) (low high : ℕ) → AllKnown (map (range_at s.bounds) (facts_of s.bounds p)) → ¬ IsEmptyPoint s p → IsRange (map (range_at s.bounds) (facts_of s.bounds p)) range → AreTightest s.bounds (facts_of s.bounds p) range low high → IsMet s p low high
+met_of law s p range.Wide low high known some is tight = absurd (is known)
+met_of law s p range.Empty low high known some is tight = absurd (some is)
+met_of law s p (range.Meets i) low high known some is tight = let x = law (map (range_at s.bounds) (facts_of s.bounds p)) i is in record { some = (x.0, (is.numbers x.0).0 x.1); low_first = tight.0; high_first = tight.1 }
 
 -- what lies in the intervals of all facts lies in the range of the point
 pub lies_between : (s : Constraints) (p : ℕ) (range : Interval Ratio) → IsBounded s p range → (x : Fraction) → LiesInAll (map (range_at s.bounds) (facts_of s.bounds p)) x → HasNumber (numbers_of range) x
@@ -100,8 +92,8 @@ lies_between s p range b x all =
     }
 
 -- a number that lies in an interval shows that it is not empty
-not_empty : (i : Interval Fraction) (x : Fraction) → HasNumber i x → ¬ HasNoNumber i
-not_empty i x lies crosses = (ends_tell IsBelow SameNumber number_dense i).0 crosses x lies
+not_empty : EndsTell IsBelow SameNumber → (i : Interval Fraction) (x : Fraction) → HasNumber i x → ¬ HasNoNumber i
+not_empty law i x lies crosses = (law i).0 crosses x lies
 
 -- ---- the ranges of all points
 
@@ -118,15 +110,15 @@ closing s [] (r ∷ rs) p d h l = absurd h
 closing s (q ∷ qs) (r ∷ rs) zero d h l = record { range = r; at = refl; bounded = h.0 }
 closing s (q ∷ qs) (r ∷ rs) (suc p) d h l = closing s qs rs p d h.1 (omega (arith, l))
 
-bounded_some : (s : Constraints) (p : ℕ) (range : Interval Ratio) → IsBounded s p range → ¬ HasNoNumber (numbers_of range)
-bounded_some s p range b = not_empty (numbers_of range) b.is.some.0 (lies_between s p range b b.is.some.0 b.is.some.1)
+bounded_some : EndsTell IsBelow SameNumber → (s : Constraints) (p : ℕ) (range : Interval Ratio) → IsBounded s p range → ¬ HasNoNumber (numbers_of range)
+bounded_some law s p range b = not_empty law (numbers_of range) b.is.some.0 (lies_between s p range b b.is.some.0 b.is.some.1)
 
-pub have_numbers : (s : Constraints) (points : List ℕ) (ranges : List (Interval Ratio)) → AreEach (IsBounded s) points ranges → HaveNumbers ranges
-have_numbers s [] [] h p l = absurd (omega (arith, l))
-have_numbers s [] (r ∷ rs) h p l = absurd h
-have_numbers s (q ∷ qs) [] h p l = absurd h
-have_numbers s (q ∷ qs) (r ∷ rs) h zero l = bounded_some s q r h.0
-have_numbers s (q ∷ qs) (r ∷ rs) h (suc p) l = have_numbers s qs rs h.1 p (omega (arith, l))
+pub have_numbers : EndsTell IsBelow SameNumber → (s : Constraints) (points : List ℕ) (ranges : List (Interval Ratio)) → AreEach (IsBounded s) points ranges → HaveNumbers ranges
+have_numbers law s [] [] h p l = absurd (omega (arith, l))
+have_numbers law s [] (r ∷ rs) h p l = absurd h
+have_numbers law s (q ∷ qs) [] h p l = absurd h
+have_numbers law s (q ∷ qs) (r ∷ rs) h zero l = bounded_some law s q r h.0
+have_numbers law s (q ∷ qs) (r ∷ rs) h (suc p) l = have_numbers law s qs rs h.1 p (omega (arith, l))
 
 low_of : (s : Constraints) (p : ℕ) (closed : Interval Parts) → Closing s p closed → IsLowOf s (facts_of s.bounds p) (value_of closed.low)
 low_of s p closed h = record {

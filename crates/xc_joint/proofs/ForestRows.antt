@@ -3,18 +3,18 @@ use Rattle.std.proofs.Common.{◌≡◌, ℕ, zero, suc, ◌+◌, ◌-◌, ◌<�
 use Rattle.std.specs.List.Sorted.{IsStrictlySortedBy}
 use Rattle.std.specs.Ordering.{nat_cmp}
 use Rattle.std.specs.Prelude.{All}
-use Rattle.xc_forest.specs.Forests.{AreRows, HasNoCycle, row_at, points_of as row_points, IsIn as IsInRow, IsOnce as IsOnceIn, IsNext as IsNextTo, IsThin as IsThinTo, IsPointOf}
-use Rattle.xc_forest.proofs.Cases.{lt_or_le}
+use Rattle.xc_forest.specs.Forests.{AreRows, HasNoCycle, row_at, points_of as row_points, IsNext as IsNextTo, IsThin as IsThinTo, IsPointOf}
+use Rattle.xc_lists.specs.Members.{IsIn as IsInRow, IsOnce as IsOnceIn}
+use Rattle.xc_model.proofs.Integers.{lt_or_le}
 use Rattle.xc_joint.specs.Steps.OneForest.{AreEach, IsRowOf, IsSignedPlace}
 use Rattle.xc_joint.proofs.Each.{each_at, each_length, other_default}
 use Rattle.xc_joint.proofs.Searched.{rises}
 use Rattle.xc_joint.proofs.Sizes.{place_of}
-use Rattle.xc_system.proofs.Joins.{is_in_at}
-use Rattle.xc_system.proofs.Links.{owned}
-use Rattle.xc_system.proofs.Parts.{point_within}
+use Rattle.xc_lists.proofs.Members.{is_in_at}
 use Rattle.xc_system.specs.Components.{IsComponent, HasPoint}
+use Rattle.xc_system.specs.Laws.{OwnsPoints, PointsWithin}
 use Rattle.xc_system.specs.Forests.{IsForest, IsNext, IsOf, IsThin, Vertex, a_point, an_equation}
-use Rattle.xc_system.specs.Members.{IsIn, IsOnce}
+use Rattle.xc_lists.specs.Members.{IsIn, IsOnce}
 use Rattle.xc_system.specs.Systems.{Constraints, IsSystem, equation_at, points_of}
 use Rattle.xc_system.specs.declared.types.Component.{Component}
 use Rattle.xc_system.specs.declared.types.Entry.{Entry}
@@ -59,12 +59,12 @@ entry_in (e ∷ es) zero d l = inl refl
 entry_in (e ∷ es) (suc k) d l = inr (entry_in es k d (omega (arith, l)))
 
 -- the points of a component's equations are its own
-pub own_points : (s : Constraints) (c : Component) → IsSystem s → IsComponent s c → All (λ i. All (λ entry. IsIn entry.point c.points) (equation_at s.equations i).entries) c.equations
-own_points s c system is j d l k e m =
+pub own_points : OwnsPoints → PointsWithin → (s : Constraints) (c : Component) → IsSystem s → IsComponent s c → All (λ i. All (λ entry. IsIn entry.point c.points) (equation_at s.equations i).entries) c.equations
+own_points owns within s c system is j d l k e m =
     let i : ℕ = get_or c.equations j d in
     let there : IsIn (get_or c.equations j d) c.equations = subst (λ x. IsIn x c.equations) (other_default c.equations j 0 d l) (is_in_at c.equations j l) in
     let has : HasPoint s.equations (get_or c.equations j d) (get_or (equation_at s.equations (get_or c.equations j d)).entries k e).point = entry_in (equation_at s.equations (get_or c.equations j d)).entries k e m in
-    owned s c is (get_or c.equations j d) _ (point_within s (get_or c.equations j d) _ system has) there has
+    owns s c is (get_or c.equations j d) _ (within s (get_or c.equations j d) _ system has) there has
 
 module _ (s : Constraints) (c : Component) (rows : List (List (ℕ × Bool))) (is : IsComponent s c) (each : AreEach (IsRowOf s c.points) c.equations rows) where
   abbrev n : ℕ

@@ -16,19 +16,18 @@ use Rattle.xc_joint.specs.declared.types.Part.{Part}
 use Rattle.xc_joint.specs.declared.types.Part.TheVariants.{Values, Wide}
 use Rattle.xc_model.specs.Fraction.{whole}
 use Rattle.xc_model.specs.Ratio.{Ratio, fraction_of}
-use Rattle.xc_system.proofs.Joins.{is_in_at}
-use Rattle.xc_system.proofs.Links.{linked_sym, linked_trans}
+use Rattle.xc_lists.proofs.Members.{is_in_at}
 use Rattle.xc_system.specs.Components.{AreComponents, least_of}
 use Rattle.xc_system.specs.Kept.{Multipliers}
-use Rattle.xc_system.specs.Laws.{JoinedSolve, PartContradicts}
-use Rattle.xc_system.specs.Members.{IsIn}
+use Rattle.xc_system.specs.Laws.{JoinedSolve, LinksAreEquivalences, PartContradicts}
+use Rattle.xc_lists.specs.Members.{IsIn}
 use Rattle.xc_system.specs.Solutions.{Assignment, Solves, SolvesPart}
 use Rattle.xc_system.specs.Systems.{Constraints, IsSystem, equation_at}
 use Rattle.xc_system.specs.declared.types.Certificate.TheVariants.{Feasible, Infeasible}
 use Rattle.xc_system.specs.declared.types.Component.{Component}
 use Rattle.xc_system.specs.declared.types.Entry.{Entry}
-use Rattle.xc_verify.proofs.Refusing.{contradiction_accepted, solved_accepted}
 use Rattle.xc_verify.specs.Feasible.{assigned, equation_terms}
+use Rattle.xc_verify.specs.Laws.{ContradictionsAreAccepted, SolutionsAreAccepted}
 use Rattle.xc_verify.specs.Judgements.{IsJudgement, Proves}
 use Rattle.xc_verify.specs.Sums.{IsSumOf, zero_ratio}
 use Rattle.xc_verify.specs.declared.types.Judgement.TheVariants.{Accepted}
@@ -140,18 +139,18 @@ placed_at (q ∷ qs) (v ∷ vs) (suc i) p x s at of = go (p == q) refl ∙ place
 
 module _ (s : Constraints) (cs : List Component) (are : AreComponents s cs) where
   -- two of them have no point in common
-  apart : (j n : ℕ) (b c : Component) → j < n → slice_get cs j ≡ Some b → slice_get cs n ≡ Some c → (p : ℕ) → IsIn p b.points → IsIn p c.points → ⊥
-  apart j n b c l at there p in_b in_c =
+  apart : LinksAreEquivalences → (j n : ℕ) (b c : Component) → j < n → slice_get cs j ≡ Some b → slice_get cs n ≡ Some c → (p : ℕ) → IsIn p b.points → IsIn p c.points → ⊥
+  apart links j n b c l at there p in_b in_c =
       let ib = are.each j b at in
       let ic = are.each n c there in
-      let linked = linked_trans s.equations (least_of b) p (least_of c) ((ib.points p).0 in_b).1 (linked_sym s.equations (least_of c) p ((ic.points p).0 in_c).1) in
-      let same : c ≡ b = same_component s c b ic ib ((ib.points (least_of c)).1 (ic.least, linked)) in
+      let linked = (links s.equations).transitive (least_of b) p (least_of c) ((ib.points p).0 in_b).1 ((links s.equations).symmetric (least_of c) p ((ic.points p).0 in_c).1) in
+      let same : c ≡ b = same_component links s c b ic ib ((ib.points (least_of c)).1 (ic.least, linked)) in
       omega (arith, are.numbered j n b c at there l, ap least_of same)
 
   -- a part more
   module _ (n : ℕ) (c : Component) (there : slice_get cs n ≡ Some c) (parts : List Part) (each : length parts ≡ n) (all now : List Ratio) (part : Part) where
-    pub gathered_more : IsPart s c part → ((values : List Ratio) → part ≡ Values values → AreAmong c.points values now × HaveSums s c values) → ((p : ℕ) → (IsIn p c.points → ⊥) → slice_get now p ≡ slice_get all p) → AreGathered s cs parts all → AreGathered s cs (parts ++ part ∷ []) now
-    gathered_more is among kept before = record { part = parts_are; among = all_among }
+    pub gathered_more : LinksAreEquivalences → IsPart s c part → ((values : List Ratio) → part ≡ Values values → AreAmong c.points values now × HaveSums s c values) → ((p : ℕ) → (IsIn p c.points → ⊥) → slice_get now p ≡ slice_get all p) → AreGathered s cs parts all → AreGathered s cs (parts ++ part ∷ []) now
+    gathered_more links is among kept before = record { part = parts_are; among = all_among }
       where
         own : (k : ℕ) (d : Component) → slice_get cs k ≡ Some d → k ≡ length parts → c ≡ d
         own k d at e = same_Some c d (sym there ∙ ap (λ (m : ℕ). slice_get cs m) (sym (e ∙ each)) ∙ at)
@@ -169,7 +168,7 @@ module _ (s : Constraints) (cs : List Component) (are : AreComponents s cs) wher
             go : (slice_get parts k ≡ Some (Values values)) ⊎ ((k ≡ length parts) × (part ≡ Values values)) → AreAmong d.points values now × HaveSums s d values
             go (inl h) =
                 let b = before.among k d values at h in
-                (λ i p x place value. kept p (λ in_c. apart k n d c (omega (arith, each, slice_get_within parts k (Values values) h)) at there p (there_in d.points i p place) in_c) ∙ b.0 i p x place value, b.1)
+                (λ i p x place value. kept p (λ in_c. apart links k n d c (omega (arith, each, slice_get_within parts k (Values values) h)) at there p (there_in d.points i p place) in_c) ∙ b.0 i p x place value, b.1)
             go (inr (e, same)) = subst (λ (y : Component). AreAmong y.points values now × HaveSums s y values) (own k d at e) (among values same)
 
   -- the number of components is at most that of points
@@ -200,7 +199,7 @@ length_more (x ∷ xs) y = omega (arith, length_more xs y)
 
 -- ---- one component more
 
-module _ (s : Constraints) (cs : List Component) (are : AreComponents s cs) (n : ℕ) (c : Component) (there : slice_get cs n ≡ Some c) (parts : List Part) (all : List Ratio) (count : length all ≡ s.points) (each : length parts ≡ n) (gathered : AreGathered s cs parts all) (b : Bool) (caused : HaveCause parts b) (parts_now : List Part) (all_now : List Ratio) (b_now : Bool) where
+module _ (links : LinksAreEquivalences) (s : Constraints) (cs : List Component) (are : AreComponents s cs) (n : ℕ) (c : Component) (there : slice_get cs n ≡ Some c) (parts : List Part) (all : List Ratio) (count : length all ≡ s.points) (each : length parts ≡ n) (gathered : AreGathered s cs parts all) (b : Bool) (caused : HaveCause parts b) (parts_now : List Part) (all_now : List Ratio) (b_now : Bool) where
   -- what the loop keeps
   abbrev AreKept : Type 0
   AreKept = (length all_now ≡ s.points) × (length parts_now ≡ n + 1) × AreGathered s cs parts_now all_now × HaveCause parts_now b_now
@@ -212,7 +211,7 @@ module _ (s : Constraints) (cs : List Component) (are : AreComponents s cs) (n :
     ap length same ∙ long ∙ ap length olds ∙ count,
     ap length more ∙ length_more parts (Values values) ∙ ap (λ (k : ℕ). k + 1) each,
     subst (λ (ps : List Part). AreGathered s cs ps all_now) (sym more) (subst (λ (xs : List Ratio). AreGathered s cs (parts ++ Values values ∷ []) xs) (sym same)
-        (gathered_more s cs are n c there parts each all now (Values values) h.0 given_own (λ p out. kept p (λ i. out (subst (λ (ps : List ℕ). IsIn p ps) own i)) ∙ ap (λ (xs : List Ratio). slice_get xs p) olds) gathered)),
+        (gathered_more s cs are n c there parts each all now (Values values) links h.0 given_own (λ p out. kept p (λ i. out (subst (λ (ps : List ℕ). IsIn p ps) own i)) ∙ ap (λ (xs : List Ratio). slice_get xs p) olds) gathered)),
     subst (λ (ps : List Part). HaveCause ps b_now) (sym more) (subst (λ (t : Bool). HaveCause (parts ++ Values values ∷ []) t) (sym told) (cause_kept parts values b caused)),
   )
     where
@@ -228,7 +227,7 @@ module _ (s : Constraints) (cs : List Component) (are : AreComponents s cs) (n :
     ap length same ∙ count,
     ap length more ∙ length_more parts (Wide cause) ∙ ap (λ (k : ℕ). k + 1) each,
     subst (λ (ps : List Part). AreGathered s cs ps all_now) (sym more) (subst (λ (xs : List Ratio). AreGathered s cs (parts ++ Wide cause ∷ []) xs) (sym same)
-        (gathered_more s cs are n c there parts each all all (Wide cause) is (λ values e. absurd (other values e)) (λ p out. refl) gathered)),
+        (gathered_more s cs are n c there parts each all all (Wide cause) links is (λ values e. absurd (other values e)) (λ p out. refl) gathered)),
     subst (λ (ps : List Part). HaveCause ps b_now) (sym more) (subst (λ (t : Bool). HaveCause (parts ++ Wide cause ∷ []) t) (sym told) (cause_new parts cause)),
   )
     where
@@ -244,7 +243,7 @@ given (Some c) (Some (Wide cause)) = λ p. whole (pos 0)
 given (Some c) None = λ p. whole (pos 0)
 given None part = λ p. whole (pos 0)
 
-module _ (s : Constraints) (cs : List Component) (are : AreComponents s cs) (parts : List Part) (all : List Ratio) (each : length parts ≡ length cs) (count : length all ≡ s.points) (gathered : AreGathered s cs parts all) (valued : HaveCause parts false) where
+module _ (accepted : SolutionsAreAccepted) (s : Constraints) (cs : List Component) (are : AreComponents s cs) (parts : List Part) (all : List Ratio) (each : length parts ≡ length cs) (count : length all ≡ s.points) (gathered : AreGathered s cs parts all) (valued : HaveCause parts false) where
   -- the values of a component
   values_at : (k : ℕ) (c : Component) → slice_get cs k ≡ Some c → (values : List Ratio) × (slice_get parts k ≡ Some (Values values))
   values_at k c at = go (slice_get_cases parts k).1
@@ -291,15 +290,15 @@ module _ (s : Constraints) (cs : List Component) (are : AreComponents s cs) (par
   pub all_answer : JoinedSolve → IsSystem s → Proves s (Feasible all) × IsJudgement s (Feasible all) Accepted
   all_answer joined ok =
       let solves = all_solve joined ok in
-      ((count, solves), solved_accepted s all count solves (all_sums ok))
+      ((count, solves), accepted s all count solves (all_sums ok))
 
 -- ---- a refutation
 
-module _ (s : Constraints) (cs : List Component) (are : AreComponents s cs) (k : ℕ) (c : Component) (there : slice_get cs k ≡ Some c) (parts : List Part) (all : List Ratio) (each : length parts ≡ k) (gathered : AreGathered s cs parts all) where
+module _ (accepted : ContradictionsAreAccepted) (s : Constraints) (cs : List Component) (are : AreComponents s cs) (k : ℕ) (c : Component) (there : slice_get cs k ≡ Some c) (parts : List Part) (all : List Ratio) (each : length parts ≡ k) (gathered : AreGathered s cs parts all) where
   pub refuted_answer : PartContradicts → IsSystem s → (r : Multipliers) → IsRefutedBy s c r → IsRefuted s r × IsJudgement s (Infeasible r) Accepted
   refuted_answer joins ok r h = (
     record { components = cs; are = are; k = k; component = c; there = there; contradicts = h.contradicts; uncaused = h.uncaused; empty = h.empty; earlier = earlier },
-    contradiction_accepted s r (joins s c r ok (are.each k c there) h.contradicts) h.sums.points h.sums.constant,
+    accepted s r (joins s c r ok (are.each k c there) h.contradicts) h.sums.points h.sums.constant,
   )
     where
       earlier : (j : ℕ) (d : Component) → j < k → slice_get cs j ≡ Some d → (part : Part) × IsPart s d part
@@ -322,9 +321,9 @@ module _ (s : Constraints) (cs : List Component) (are : AreComponents s cs) wher
     first = λ j d l at h. h.no_forest (ready j d l at h.none_empty h.none_wide);
   }
 
-  pub none_other : AreReady s cs (length cs) → HasNoOther s
-  none_other ready ds ads k c at h =
-      let here = placed_at_of s cs are c (ads.each k c at) in
+  pub none_other : LinksAreEquivalences → AreReady s cs (length cs) → HasNoOther s
+  none_other links ready ds ads k c at h =
+      let here = placed_at_of links s cs are c (ads.each k c at) in
       h.no_forest (ready here.0 c (slice_get_within cs here.0 c here.1) here.1 h.none_empty h.none_wide)
 
   pub ready_more : (n : ℕ) (c : Component) → slice_get cs n ≡ Some c → IsReady s c → AreReady s cs n → AreReady s cs (n + 1)

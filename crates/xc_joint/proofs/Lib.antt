@@ -15,7 +15,6 @@ pub mod ForestParts
 pub mod ForestRanges
 pub mod ForestRows
 pub mod Gathering
-pub mod Lowest
 pub mod Nonempty
 pub mod OneKind
 pub mod PartSums

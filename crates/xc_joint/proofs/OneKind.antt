@@ -22,12 +22,11 @@ use Rattle.xc_joint.specs.declared.types.Joint.TheVariants.{Settled, TooWide}
 use Rattle.xc_joint.specs.declared.types.Part.{Part}
 use Rattle.xc_joint.specs.declared.types.Part.TheVariants.{Values, Wide}
 use Rattle.xc_model.specs.Ratio.{Ratio}
-use Rattle.xc_system.proofs.Links.{has_within, linked_sym}
-use Rattle.xc_system.proofs.Places.{first_least, in_places}
+use Rattle.xc_lists.proofs.Members.{first_least, in_places}
 use Rattle.xc_system.specs.Components.{AreComponents, IsComponent, IsLinked, least_of}
 use Rattle.xc_system.specs.Kept.{Multipliers}
-use Rattle.xc_system.specs.Laws.{ExcludesPassing, ExcludesSolutions, PartContradicts, SolvingMaySolve}
-use Rattle.xc_system.specs.Members.{IsIn}
+use Rattle.xc_system.specs.Laws.{ExcludesPassing, ExcludesSolutions, HasWithin, LinksAreEquivalences, PartContradicts, SolvingMaySolve}
+use Rattle.xc_lists.specs.Members.{IsIn}
 use Rattle.xc_system.specs.Refutations.{AdmitsAt, IsContradictionOf}
 use Rattle.xc_system.specs.Solutions.{Assignment, Holds, Solves, SolvesPart}
 use Rattle.xc_system.specs.Systems.{Constraints, IsSystem, equation_at, facts_of, range_at}
@@ -83,7 +82,7 @@ sorted_same (x ∷ xs) (y ∷ ys) s t f g = ap₂ (λ (z : ℕ) (zs : List ℕ).
 abbrev made : List ℕ → List ℕ → Component
 made ps es = record { points = ps; equations = es }
 
-module _ (s : Constraints) where
+module _ (links : LinksAreEquivalences) (s : Constraints) where
   -- a component with the first point of another is that one
   pub same_component : (c d : Component) → IsComponent s c → IsComponent s d → IsIn (least_of c) d.points → c ≡ d
   same_component c d ic id h = ap₂ (λ (ps es : List ℕ). made ps es) points equations
@@ -92,7 +91,7 @@ module _ (s : Constraints) where
       of_d = (id.points (least_of c)).0 h
 
       of_c : IsIn (least_of d) c.points
-      of_c = (ic.points (least_of d)).1 (id.least, linked_sym s.equations (least_of d) (least_of c) of_d.1)
+      of_c = (ic.points (least_of d)).1 (id.least, (links s.equations).symmetric (least_of d) (least_of c) of_d.1)
 
       least : least_of c ≡ least_of d
       least = omega (arith, first_least c.points (least_of d) ic.points_ascend of_c, first_least d.points (least_of c) id.points_ascend h)
@@ -163,8 +162,8 @@ may P None h = tt
 may P (Some x) h = h
 
 -- what solves a component is not contradicted there
-not_contradicted : ExcludesPassing → PartContradicts → (s : Constraints) (c : Component) (r : Multipliers) (z : Assignment) → IsSystem s → IsComponent s c → IsContradictionOf s c r → SolvesPart s c z → ⊥
-not_contradicted excludes part s c r z ok ic h solves = excludes s r z ok (part s c r ok ic h) (record {
+not_contradicted : HasWithin → ExcludesPassing → PartContradicts → (s : Constraints) (c : Component) (r : Multipliers) (z : Assignment) → IsSystem s → IsComponent s c → IsContradictionOf s c r → SolvesPart s c z → ⊥
+not_contradicted within excludes part s c r z ok ic h solves = excludes s r z ok (part s c r ok ic h) (record {
   lows = λ i d l. admits _ (h.lows i d l).1;
   highs = λ i d l. admits _ (h.highs i d l).1;
   bindings = λ i d l. holds _ (h.bindings i d l);
@@ -177,7 +176,7 @@ not_contradicted excludes part s c r z ok ic h solves = excludes s r z ok (part 
     holds : (i : ℕ) → IsIn i c.equations → Holds (equation_at s.equations i) z
     holds i own =
         let has = (ic.equations i).0 own in
-        solves.met i (equation_at s.equations i) (slice_get-get_or s.equations i (record { entries = [] }) (has_within s.equations i has.0 has.1)) own
+        solves.met i (equation_at s.equations i) (slice_get-get_or s.equations i (record { entries = [] }) (within s.equations i has.0 has.1)) own
 
 module _ (s : Constraints) (z : Assignment) (solves : Solves s z) where
   -- the interval of a fact has the value of its point
@@ -229,14 +228,14 @@ solved_not_caused s z parts solves h = go (slice_get_cases h.components h.some.0
     go (inr (past, none)) = omega (arith, past, h.each, slice_get_within parts h.some.0 (Wide h.some.1) h.some.2)
 
 -- where a component is contradicted, it has no part
-refuted_not_parts : ExcludesPassing → PartContradicts → (s : Constraints) (r : Multipliers) (parts : List Part) → IsSystem s → IsRefuted s r → ArePartsOf s parts → ⊥
-refuted_not_parts excludes joins s r parts ok h g = go (placed_at s g.components g.are h.component own)
+refuted_not_parts : LinksAreEquivalences → HasWithin → ExcludesPassing → PartContradicts → (s : Constraints) (r : Multipliers) (parts : List Part) → IsSystem s → IsRefuted s r → ArePartsOf s parts → ⊥
+refuted_not_parts links within excludes joins s r parts ok h g = go (placed_at links s g.components g.are h.component own)
   where
     own : IsComponent s h.component
     own = h.are.each h.k h.component h.there
 
     by : (part : Part) → IsPart s h.component part → ⊥
-    by (Values values) k = not_contradicted excludes joins s h.component r _ ok own h.contradicts k.solve
+    by (Values values) k = not_contradicted within excludes joins s h.component r _ ok own h.contradicts k.solve
     by (Wide cause) k = h.uncaused cause k
 
     go : ((i : ℕ) × (slice_get g.components i ≡ Some h.component)) → ⊥
@@ -254,17 +253,17 @@ solved_not_refuted excludes may_solve joins s z r ok solves h = excludes s r z o
 none_left : (s : Constraints) (k : ℕ) → HasNoOther s → IsFirstOther s k → ⊥
 none_left s k none h = none h.components h.are k h.component h.there h.other
 
-module _ (passing : ExcludesPassing) (solutions : ExcludesSolutions) (may_solve : SolvingMaySolve) (joins : PartContradicts) where
+module _ (links : LinksAreEquivalences) (within : HasWithin) (passing : ExcludesPassing) (solutions : ExcludesSolutions) (may_solve : SolvingMaySolve) (joins : PartContradicts) where
   pub one_kind : HasOneKind
   one_kind s (Answered (Settled (Feasible v))) (Answered (Settled (Feasible w))) ok h g = refl
   one_kind s (Answered (Settled (Feasible v))) (Answered (Settled (Infeasible r))) ok h g = absurd (solved_not_refuted solutions may_solve joins s (assigned v) r ok h.1.0.1 g.1.0)
   one_kind s (Answered (Settled (Feasible v))) (Answered (TooWide ps)) ok h g = absurd (solved_not_caused s (assigned v) ps h.1.0.1 g.1)
   one_kind s (Answered (Settled (Infeasible r))) (Answered (Settled (Feasible v))) ok h g = absurd (solved_not_refuted solutions may_solve joins s (assigned v) r ok g.1.0.1 h.1.0)
   one_kind s (Answered (Settled (Infeasible r))) (Answered (Settled (Infeasible q))) ok h g = refl
-  one_kind s (Answered (Settled (Infeasible r))) (Answered (TooWide ps)) ok h g = absurd (refuted_not_parts passing joins s r ps ok h.1.0 g.1)
+  one_kind s (Answered (Settled (Infeasible r))) (Answered (TooWide ps)) ok h g = absurd (refuted_not_parts links within passing joins s r ps ok h.1.0 g.1)
   one_kind s (Answered (TooWide ps)) (Answered (Settled (Feasible v))) ok h g = absurd (solved_not_caused s (assigned v) ps g.1.0.1 h.1)
-  one_kind s (Answered (TooWide ps)) (Answered (Settled (Infeasible r))) ok h g = absurd (refuted_not_parts passing joins s r ps ok g.1.0 h.1)
+  one_kind s (Answered (TooWide ps)) (Answered (Settled (Infeasible r))) ok h g = absurd (refuted_not_parts links within passing joins s r ps ok g.1.0 h.1)
   one_kind s (Answered (TooWide ps)) (Answered (TooWide qs)) ok h g = refl
   one_kind s (Answered joint) (Unsettled k) ok h g = absurd (none_left s k h.0 g)
   one_kind s (Unsettled k) (Answered joint) ok h g = absurd (none_left s k g.0 h)
-  one_kind s (Unsettled j) (Unsettled k) ok h g = ap (λ (n : ℕ). Left n) (other_once s j k h g)
+  one_kind s (Unsettled j) (Unsettled k) ok h g = ap (λ (n : ℕ). Left n) (other_once links s j k h g)

@@ -32,7 +32,7 @@ use Rattle.xc_model.specs.Ratio.{Ratio, fraction_of}
 use Rattle.xc_model.proofs.NumbersOver.{below_number, equal_number, over_number}
 use Rattle.xc_system.specs.Components.{IsComponent}
 use Rattle.xc_system.specs.Forests.{IsNarrow, reach, total_reach}
-use Rattle.xc_system.specs.Members.{IsIn, IsOnce}
+use Rattle.xc_lists.specs.Members.{IsIn, IsOnce}
 use Rattle.xc_system.specs.Systems.{Constraints, equation_at, facts_of, points_of}
 use Rattle.xc_system.specs.declared.types.Component.{Component}
 use Rattle.xc_verify.specs.Feasible.{equation_terms}

@@ -14,8 +14,6 @@ use Rattle.xc_interval.specs.Ranges.{AllKnown}
 use Rattle.xc_interval.specs.Tightest.{IsTighterHigh, IsTighterLow}
 use Rattle.xc_interval.specs.declared.ends.End.TheVariants.{Closed}
 use Rattle.xc_interval.specs.declared.interval.Interval.{Interval}
-use Rattle.xc_interval.proofs.Numbers.{number_dense}
-use Rattle.xc_interval.proofs.Tighter.{low_tightness, high_tightness}
 use Rattle.xc_joint.specs.Answers.{placed, AreValuesOf}
 use Rattle.xc_joint.specs.Solved.{interval_at, number_at, number_total, signed_number, NumbersSolve}
 use Rattle.xc_joint.specs.Steps.OneForest.{AreEach, IsBounded, IsRowOf, IsSign, IsSignedPlace}
@@ -27,7 +25,7 @@ use Rattle.xc_model.specs.Fraction.{Fraction, IsBelow, SameNumber, whole, neg_of
 use Rattle.xc_model.specs.Ratio.{Ratio, fraction_of}
 use Rattle.xc_model.proofs.Numbers.{same-sum, same-trans}
 use Rattle.xc_system.specs.Components.{IsComponent}
-use Rattle.xc_system.specs.Members.{IsIn}
+use Rattle.xc_lists.specs.Members.{IsIn}
 use Rattle.xc_system.specs.Solutions.{Admits, Holds, IsZero, weighed}
 use Rattle.xc_system.specs.Spots.{HasTighter, IsFirstTightest, high_end, low_end}
 use Rattle.xc_system.specs.Systems.{Constraints, equation_at, facts_of, range_at}
@@ -36,7 +34,7 @@ use Rattle.xc_system.specs.declared.types.Component.{Component}
 use Rattle.xc_system.specs.declared.types.Entry.{Entry}
 use Rattle.xc_system.specs.declared.types.Equation.{Equation}
 use Rattle.xc_system.specs.declared.types.Side.TheVariants.{High, Low}
-use Rattle.xc_system.proofs.Places.{places_in}
+use Rattle.xc_lists.proofs.Members.{places_in}
 
 -- ---- the value of a point
 
@@ -88,9 +86,16 @@ in_either x [] ys h = inr h
 in_either x (y ∷ xs) ys (inl e) = inl (inl e)
 in_either x (y ∷ xs) ys (inr h) = elim (in_either x xs ys h) [ inl a ↦ inl (inr a) | inr b ↦ inr b ]
 
+-- low ends and high ends go by tightness
+abbrev pub LowsCompare : Type 0
+LowsCompare = IsTightness (IsTighterLow IsBelow SameNumber) (IsPast IsBelow SameNumber)
+
+abbrev pub HighsCompare : Type 0
+HighsCompare = IsTightness (IsTighterHigh IsBelow SameNumber) (IsBefore IsBelow SameNumber)
+
 module _ (bounds : List Bound) (facts : List ℕ) (x : Fraction) where
   -- what is past the tightest low end is past all
-  past_all : IsTightness (IsTighterLow IsBelow SameNumber) (IsPast IsBelow SameNumber) → (k : ℕ) → IsFirstTightest (HasTighter Low bounds) facts k → IsPast IsBelow SameNumber (low_end bounds k) x → (j : ℕ) → IsIn j facts → IsPast IsBelow SameNumber (low_end bounds j) x
+  past_all : LowsCompare → (k : ℕ) → IsFirstTightest (HasTighter Low bounds) facts k → IsPast IsBelow SameNumber (low_end bounds k) x → (j : ℕ) → IsIn j facts → IsPast IsBelow SameNumber (low_end bounds j) x
   past_all T k h past j listed = go (in_either j h.front (k ∷ h.back) (subst (λ (l : List ℕ). IsIn j l) h.there listed))
     where
       go : IsIn j h.front ⊎ ((j ≡ k) ⊎ IsIn j h.back) → IsPast IsBelow SameNumber (low_end bounds j) x
@@ -98,7 +103,7 @@ module _ (bounds : List Bound) (facts : List ℕ) (x : Fraction) where
       go (inr (inl e)) = subst (λ (i : ℕ). IsPast IsBelow SameNumber (low_end bounds i) x) (sym e) past
       go (inr (inr b)) = T.keeps (low_end bounds j) (low_end bounds k) (h.behind j b) x past
 
-  before_all : IsTightness (IsTighterHigh IsBelow SameNumber) (IsBefore IsBelow SameNumber) → (k : ℕ) → IsFirstTightest (HasTighter High bounds) facts k → IsBefore IsBelow SameNumber (high_end bounds k) x → (j : ℕ) → IsIn j facts → IsBefore IsBelow SameNumber (high_end bounds j) x
+  before_all : HighsCompare → (k : ℕ) → IsFirstTightest (HasTighter High bounds) facts k → IsBefore IsBelow SameNumber (high_end bounds k) x → (j : ℕ) → IsIn j facts → IsBefore IsBelow SameNumber (high_end bounds j) x
   before_all T k h past j listed = go (in_either j h.front (k ∷ h.back) (subst (λ (l : List ℕ). IsIn j l) h.there listed))
     where
       go : IsIn j h.front ⊎ ((j ≡ k) ⊎ IsIn j h.back) → IsBefore IsBelow SameNumber (high_end bounds j) x
@@ -121,16 +126,16 @@ known_has bounds (f ∷ fs) k x known (inr listed) past before = known_has bound
     rest (Some i) a = a
 
 -- a number between the tightest ends lies in the interval of each fact
-pub all_have : (s : Constraints) (p : ℕ) (range : Interval Ratio) → IsBounded s p range → (x : Fraction) → HasNumber (numbers_of range) x → (k : ℕ) → IsIn k (facts_of s.bounds p) → IsSomeAnd (range_at s.bounds k) (λ interval. HasNumber (numbers_of interval) x)
-all_have s p range b x lies k listed =
+pub all_have : LowsCompare → HighsCompare → (s : Constraints) (p : ℕ) (range : Interval Ratio) → IsBounded s p range → (x : Fraction) → HasNumber (numbers_of range) x → (k : ℕ) → IsIn k (facts_of s.bounds p) → IsSomeAnd (range_at s.bounds k) (λ interval. HasNumber (numbers_of interval) x)
+all_have lows highs s p range b x lies k listed =
     let facts = facts_of s.bounds p in
     let low_is : low_end s.bounds b.span.low ≡ end_at (λ y. fraction_of y) range.low = ap (λ o. option_map_or (λ interval. end_at (λ y. fraction_of y) interval.low) o (Closed (whole (pos 0)))) b.of.low_known ∙ ap (λ e. end_at (λ y. fraction_of y) e) (sym b.of.low_is) in
     let high_is : high_end s.bounds b.span.high ≡ end_at (λ y. fraction_of y) range.high = ap (λ o. option_map_or (λ interval. end_at (λ y. fraction_of y) interval.high) o (Closed (whole (pos 0)))) b.of.high_known ∙ ap (λ e. end_at (λ y. fraction_of y) e) (sym b.of.high_is) in
     let past = subst (λ e. IsPast IsBelow SameNumber e x) (sym low_is) lies.low in
     let before = subst (λ e. IsBefore IsBelow SameNumber e x) (sym high_is) lies.high in
     known_has s.bounds facts k x b.is.known listed
-    (past_all s.bounds facts x (low_tightness IsBelow SameNumber number_dense) b.span.low b.is.low past k listed)
-    (before_all s.bounds facts x (high_tightness IsBelow SameNumber number_dense) b.span.high b.is.high before k listed)
+    (past_all s.bounds facts x lows b.span.low b.is.low past k listed)
+    (before_all s.bounds facts x highs b.span.high b.is.high before k listed)
 
 -- ---- the component
 
@@ -140,7 +145,7 @@ bounded_at s (q ∷ qs) [] j h l = absurd h
 bounded_at s (q ∷ qs) (r ∷ rs) zero h l = (r, h.0, refl)
 bounded_at s (q ∷ qs) (r ∷ rs) (suc j) h l = bounded_at s qs rs j h.1 (omega (arith, l))
 
-module _ (s : Constraints) (c : Component) (is : IsComponent s c) (ranges : List (Interval Ratio)) (rows : List (List (ℕ × Bool))) (bounded : AreEach (IsBounded s) c.points ranges) (rows_are : AreEach (IsRowOf s c.points) c.equations rows) (xs : List Ratio) (solve : NumbersSolve rows ranges xs) where
+module _ (lows : LowsCompare) (highs : HighsCompare) (s : Constraints) (c : Component) (is : IsComponent s c) (ranges : List (Interval Ratio)) (rows : List (List (ℕ × Bool))) (bounded : AreEach (IsBounded s) c.points ranges) (rows_are : AreEach (IsRowOf s c.points) c.equations rows) (xs : List Ratio) (solve : NumbersSolve rows ranges xs) where
   up : Rise c.points
   up = rises c.points is.points_ascend
 
@@ -159,7 +164,7 @@ module _ (s : Constraints) (c : Component) (is : IsComponent s c) (ranges : List
           let lies : HasNumber (numbers_of r.0) (number_at xs j) = subst (λ i. HasNumber i (number_at xs j)) r.2 (solve.within j (let many = each_length (IsBounded s) c.points ranges bounded in let m = place.1 in omega (arith, many, m))) in
           let owner : get_or (map (λ (x : Bound). x.point) s.bounds) k 0 ≡ get_or c.points j 0 = get_or-map (λ (x : Bound). x.point) s.bounds k b 0 l ∙ ap (λ (x : Bound). x.point) at ∙ ap (λ (x : Bound). x.point) same ∙ sym place.2 in
           let listed : IsIn k (facts_of s.bounds (get_or c.points j 0)) = places_in (map (λ x. x.point) s.bounds) (get_or c.points j 0) k (let e = length-map s.bounds (λ (x : Bound). x.point) in omega (arith, e, l)) owner in
-          let has = all_have s (get_or c.points j 0) r.0 r.1 (number_at xs j) lies k listed in
+          let has = all_have lows highs s (get_or c.points j 0) r.0 r.1 (number_at xs j) lies k listed in
           let value : placed c.points xs bound.point ≡ number_at xs j = ap (placed c.points xs) (sym place.2) ∙ placed_at c.points xs j up place.1 long in
           let range : range_at s.bounds k ≡ bound.range = ap (λ (o : Option Bound). option_map_or (λ x. x.range) o None) there in
           subst (λ y. IsSomeAnd bound.range (λ interval. HasNumber (numbers_of interval) y)) (sym value) (subst (λ o. IsSomeAnd o (λ interval. HasNumber (numbers_of interval) (number_at xs j))) range has)

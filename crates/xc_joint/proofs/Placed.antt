@@ -4,8 +4,8 @@ use Rattle.std.proofs.lemmas.List.{get_or-map, length-map}
 use Rattle.std.proofs.lemmas.Option.{slice_get_cases}
 use Rattle.std.specs.Option.{option_map_or}
 use Rattle.std.specs.Prelude.{slice_get}
-use Rattle.xc_system.proofs.Places.{in_places}
-use Rattle.xc_system.specs.Members.{IsIn}
+use Rattle.xc_lists.proofs.Members.{in_places}
+use Rattle.xc_lists.specs.Members.{IsIn}
 use Rattle.xc_system.specs.Systems.{Constraints, facts_of, point_at}
 use Rattle.xc_system.specs.declared.types.Bound.{Bound}
 

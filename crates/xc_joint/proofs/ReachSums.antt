@@ -3,10 +3,10 @@ use Rattle.std.proofs.Common.{◌≡◌, ◌⊎◌, ℕ, ◌+◌, ◌<◌, ◌�
 use Rattle.std.proofs.lemmas.List.Sums.{sum_by-cons, sum_by-append}
 use Rattle.std.specs.List.Sorted.{IsStrictlySortedBy}
 use Rattle.std.specs.Ordering.{nat_cmp}
-use Rattle.xc_forest.proofs.Onces.{once_from_places}
-use Rattle.xc_forest.proofs.Cases.{lt_or_le}
+use Rattle.xc_lists.proofs.Onces.{once_from_places}
+use Rattle.xc_model.proofs.Integers.{lt_or_le}
 use Rattle.xc_joint.proofs.Searched.{rises}
-use Rattle.xc_system.specs.Members.{IsIn, IsOnce}
+use Rattle.xc_lists.specs.Members.{IsIn, IsOnce}
 
 -- a list without one of its numbers
 record IsWithout (x : ℕ) (ys zs : List ℕ) : Type 0 where

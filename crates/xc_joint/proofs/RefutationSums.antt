@@ -10,8 +10,9 @@ use Rattle.std.proofs.lemmas.List.Elements.{All-head, All-tail}
 use Rattle.std.proofs.lemmas.List.Sums.{sum_by-cons}
 use Rattle.std.proofs.lemmas.Option.{slice_get_cases}
 use Rattle.std.proofs.Math.Nat.{mul-le-mul_right}
-use Rattle.xc_forest.proofs.Cases.{lt_or_le}
-use Rattle.xc_forest.proofs.Onces.{once_length}
+use Rattle.xc_model.proofs.Integers.{lt_or_le, unsigned_abs-neg}
+use Rattle.xc_lists.proofs.Members.{places_in}
+use Rattle.xc_lists.proofs.Onces.{once_length}
 use Rattle.xc_interval.specs.Ends.{value_of}
 use Rattle.xc_interval.specs.Scales.{HasEndsOnScale, IsOnScale, greatest_end, size_of}
 use Rattle.xc_interval.specs.declared.interval.Interval.{Interval}
@@ -22,12 +23,11 @@ use Rattle.xc_joint.proofs.Rooms.{powers}
 use Rattle.xc_joint.proofs.RunningSums.{minus_added, minus_product_added, plus_added, plus_product_added, summed, summed_append, summed_more, summed_none, summed_wider, whole_over, IsAdded, IsSummed, IsWhole}
 use Rattle.xc_joint.proofs.Sizes.{number_over as fraction_over, place_of, size_is, times}
 use Rattle.xc_model.specs.Ratio.{Ratio, IsOver, fraction_of}
-use Rattle.xc_model.proofs.Integers.{unsigned_abs-neg}
 use Rattle.xc_model.proofs.NumbersOver.{number_over}
 use Rattle.xc_system.specs.Components.{IsComponent}
 use Rattle.xc_system.specs.Forests.{IsNarrow, IsUnit, reach, total_reach}
 use Rattle.xc_system.specs.Kept.{IsAscending}
-use Rattle.xc_system.specs.Members.{IsIn, IsOnce}
+use Rattle.xc_lists.specs.Members.{IsIn, IsOnce}
 use Rattle.xc_system.specs.Refutations.{IsKnown, IsKnownIn}
 use Rattle.xc_system.specs.Systems.{Constraints, equation_at, facts_of, point_at, points_of, range_at}
 use Rattle.xc_system.specs.declared.types.Bound.{Bound}
@@ -36,8 +36,8 @@ use Rattle.xc_system.specs.declared.types.Entry.{Entry}
 use Rattle.xc_system.specs.declared.types.Equation.{Equation}
 use Rattle.xc_system.specs.declared.types.Side.{Side}
 use Rattle.xc_system.specs.declared.types.Side.TheVariants.{Low, High}
-use Rattle.xc_system.proofs.Places.{places_in}
 use Rattle.xc_verify.specs.Infeasible.{Line, binding_terms, coefficient_terms, constant_terms, end_term, end_terms, entry_terms, value_term, value_terms}
+use Rattle.xc_verify.specs.Laws.{SumsGoOn}
 use Rattle.xc_verify.specs.Sums.{Term, plus_product}
 
 -- ---- units
@@ -87,11 +87,11 @@ record IsListed (equations : List Equation) (m : Line) : Type 0 where
   pub units : All (λ entry. IsUnit entry.weight) (equation_at equations m.0).entries
   pub once : IsOnce (points_of (equation_at equations m.0))
 
-bindings_summed : (equations : List Equation) (ms : List Line) (p : ℕ) → All (IsListed equations) ms → IsSummed 1 (binding_terms equations ms p) (length ms)
-bindings_summed equations [] p h = summed_none 1 0
-bindings_summed equations (m ∷ ms) p h =
+bindings_summed : SumsGoOn → (equations : List Equation) (ms : List Line) (p : ℕ) → All (IsListed equations) ms → IsSummed 1 (binding_terms equations ms p) (length ms)
+bindings_summed goes_on equations [] p h = summed_none 1 0
+bindings_summed goes_on equations (m ∷ ms) p h =
     let one = All-head (IsListed equations) m ms h in
-    summed_wider 1 (binding_terms equations (m ∷ ms) p) (1 + length ms) (suc (length ms)) (omega arith) (summed_append 1 (entry_terms m.1 (equation_at equations m.0).entries p) (binding_terms equations ms p) 1 (length ms) (entries_summed m.1 (equation_at equations m.0).entries p one.unit one.units one.once) (bindings_summed equations ms p (All-tail (IsListed equations) m ms h)))
+    summed_wider 1 (binding_terms equations (m ∷ ms) p) (1 + length ms) (suc (length ms)) (omega arith) (summed_append goes_on 1 (entry_terms m.1 (equation_at equations m.0).entries p) (binding_terms equations ms p) 1 (length ms) (entries_summed m.1 (equation_at equations m.0).entries p one.unit one.units one.once) (bindings_summed goes_on equations ms p (All-tail (IsListed equations) m ms h)))
 
 end_added : (side : Side) (f : Ratio) → IsSign false f → (m : ℤ) × IsAdded 1 (end_term side f) m × (unsigned_abs m ≤ 1)
 end_added Low f h = (pos 1, plus_added 1 f (pos 1) (whole_over f (pos 1) (one_whole f h)), omega arith)
@@ -212,8 +212,8 @@ module _ (s : Constraints) (c : Component) (narrow : IsNarrow s c) where
 lengths_room : (2 ^ 31) + ((2 ^ 31) + (2 ^ 31)) ≤ 2 ^ 127
 lengths_room = lit≤ tt
 
-pub unit_refutations_sum : UnitRefutationsSum
-unit_refutations_sum s c r is_system small is_component forest against units =
+pub unit_refutations_sum : SumsGoOn → UnitRefutationsSum
+unit_refutations_sum goes_on s c r is_system small is_component forest against units =
     let narrow = forest.narrow in
     let d : ℕ = narrow.scale in
     let reached : ℕ = total_reach s c narrow.scale in
@@ -233,8 +233,8 @@ unit_refutations_sum s c r is_system small is_component forest against units =
     let many_equations = small.equations in
     record {
       points = λ p l. summed 1 (coefficient_terms s r p) (length r.bindings + (length r.lows + length r.highs)) (omega arith) (lit< tt) (omega (arith, few_bindings, few_lows, few_highs, many_facts, many_equations, lengths_room))
-          (summed_append 1 (binding_terms s.equations r.bindings p) (end_terms Low s.bounds r.lows p ++ end_terms High s.bounds r.highs p) (length r.bindings) (length r.lows + length r.highs) (bindings_summed s.equations r.bindings p equations)
-          (summed_append 1 (end_terms Low s.bounds r.lows p) (end_terms High s.bounds r.highs p) (length r.lows) (length r.highs) (ends_summed Low s.bounds r.lows p units.lows) (ends_summed High s.bounds r.highs p units.highs)));
+          (summed_append goes_on 1 (binding_terms s.equations r.bindings p) (end_terms Low s.bounds r.lows p ++ end_terms High s.bounds r.highs p) (length r.bindings) (length r.lows + length r.highs) (bindings_summed goes_on s.equations r.bindings p equations)
+          (summed_append goes_on 1 (end_terms Low s.bounds r.lows p) (end_terms High s.bounds r.highs p) (length r.lows) (length r.highs) (ends_summed Low s.bounds r.lows p units.lows) (ends_summed High s.bounds r.highs p units.highs)));
       constant = summed d (constant_terms s r) (reached + reached) positive (omega (arith, four, fits, powers, positive)) (omega (arith, four, fits, powers, positive))
-          (summed_append d (value_terms Low s.bounds r.lows) (value_terms High s.bounds r.highs) reached reached (side_summed s c narrow Low r.lows kept.lows_ascend against.lows units.lows) (side_summed s c narrow High r.highs kept.highs_ascend against.highs units.highs));
+          (summed_append goes_on d (value_terms Low s.bounds r.lows) (value_terms High s.bounds r.highs) reached reached (side_summed s c narrow Low r.lows kept.lows_ascend against.lows units.lows) (side_summed s c narrow High r.highs kept.highs_ascend against.highs units.highs));
     }

@@ -13,7 +13,7 @@ use Rattle.xc_model.proofs.NumbersOver.{difference_of_fits, neg_number, number_s
 use Rattle.xc_model.proofs.Over.{ratio}
 use Rattle.xc_verify.specs.Operations.{IsResult}
 use Rattle.xc_verify.specs.Sums.{Term, plus, minus, plus_product, minus_product, zero_ratio, IsSum, IsSumOf, IsWith}
-use Rattle.xc_verify.proofs.Results.{sum_append}
+use Rattle.xc_verify.specs.Laws.{SumsGoOn}
 
 -- ---- one operation
 
@@ -100,13 +100,13 @@ summed_more d t ts m a b added small rest x n over den fits =
     let end = all.4 in
     (all.0, all.1, (Ok one.0, one.1, all.2), all.3, omega (arith, end, size, small))
 
-pub summed_append : (d : ℕ) (xs ys : List Term) (a b : ℕ) → IsSummed d xs a → IsSummed d ys b → IsSummed d (xs ++ ys) (a + b)
-summed_append d xs ys a b first second x n over den fits =
+pub summed_append : SumsGoOn → (d : ℕ) (xs ys : List Term) (a b : ℕ) → IsSummed d xs a → IsSummed d ys b → IsSummed d (xs ++ ys) (a + b)
+summed_append goes_on d xs ys a b first second x n over den fits =
     let one = first x n over den (omega (arith, fits)) in
     let size = one.4 in
     let two = second one.0 one.1 one.3 den (omega (arith, fits, size)) in
     let end = two.4 in
-    (two.0, two.1, sum_append (Ok x) (Ok one.0) (Ok two.0) xs ys one.2 two.2, two.3, omega (arith, end, size))
+    (two.0, two.1, goes_on (Ok x) (Ok one.0) (Ok two.0) xs ys one.2 two.2, two.3, omega (arith, end, size))
 
 pub summed_wider : (d : ℕ) (ts : List Term) (a b : ℕ) → a ≤ b → IsSummed d ts a → IsSummed d ts b
 summed_wider d ts a b l h x n over den fits =

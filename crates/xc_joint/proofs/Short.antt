@@ -13,7 +13,7 @@ use Rattle.std.proofs.lemmas.Option.{slice_get_cases}
 use Prim.Native.Nat.{◌∣◌}
 use native.Mathlib.Nat.{dvd-mul_left, dvd-mul_right, mul-div_cancel'}
 use Rattle.xc_forest.specs.Forests.{sum_below, parts_below, multiplier_at, named_end, range_at as span_at}
-use Rattle.xc_forest.proofs.Scales.{parts_below_over}
+use Rattle.xc_forest.specs.Laws.{SumsAreOver}
 use Rattle.xc_interval.specs.Ends.{is_open, value_of}
 use Rattle.xc_interval.specs.declared.ends.End.{End}
 use Rattle.xc_interval.specs.declared.ends.End.TheVariants.{Closed, Open}
@@ -284,8 +284,8 @@ one_of : (a b : ℕ) → 0 < a + b → (0 < a) ⊎ (0 < b)
 one_of zero b l = inr (omega (arith, l))
 one_of (suc a) b l = inl (omega arith)
 
-pub is_short : (s : Constraints) (c : Component) (spans : List Span) (by ends : List ℤ) (r : Multipliers) → IsContradicted s c spans by ends → IsMadeOf c spans by ends r → IsShort s r
-is_short s c spans by ends r h m =
+pub is_short : SumsAreOver → (s : Constraints) (c : Component) (spans : List Span) (by ends : List ℤ) (r : Multipliers) → IsContradicted s c spans by ends → IsMadeOf c spans by ends r → IsShort s r
+is_short sums_over s c spans by ends r h m =
     let d = common s in
     let p = common_positive s in
     let low_over = listed_over d (L s) (low_at s) p (λ k. over_times d (low_at s k) p (divided s k).0) m.lows r.lows m.lows_listed in
@@ -293,7 +293,7 @@ is_short s c spans by ends r h m =
     let made = difference_over (total r.highs (high_at s)) (total r.lows (low_at s)) (sum_of_list (H s) m.highs) (sum_of_list (L s) m.lows) d high_over low_over in
     let none = zero_over (whole (pos 0)) d p (record { cross = refl }) in
     let many : length ends ≡ length h.ranges = h.contradicts.each_end ∙ length-map h.ranges closed_pairs in
-    let sums = parts_below_over (length (map closed_pairs h.ranges)) (named s h.ranges ends) (λ j. scaled s (named s h.ranges ends j)) d p (named_over s spans h.ranges ends h.ranges_are many) in
+    let sums = sums_over (length (map closed_pairs h.ranges)) (named s h.ranges ends) (λ j. scaled s (named s h.ranges ends j)) d p (named_over s spans h.ranges ends h.ranges_are many) in
     let real = real_named s spans h.ranges ends h.ranges_are many in
     let tiny = tiny_named s spans h.ranges ends h.ranges_are many in
     let same_lows = same_list (L s) (lows_of spans ends) m.lows m.lows_are in

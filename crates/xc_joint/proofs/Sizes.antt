@@ -22,7 +22,7 @@ use Rattle.xc_model.specs.Parts.{Parts, WholeParts, ArePartsOver}
 use Rattle.xc_model.specs.Ratio.{Ratio, fraction_of}
 use Rattle.xc_model.proofs.Integers.{ring}
 use Rattle.xc_system.specs.Forests.{IsNarrow, reach, total_reach}
-use Rattle.xc_system.specs.Members.{IsIn}
+use Rattle.xc_lists.specs.Members.{IsIn}
 use Rattle.xc_system.specs.Systems.{Constraints, facts_of, range_at}
 use Rattle.xc_system.specs.declared.types.Component.{Component}
 

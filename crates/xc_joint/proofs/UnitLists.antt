@@ -4,6 +4,7 @@ use Rattle.std.proofs.lemmas.List.Elements.{All-from_recursion}
 use Rattle.std.specs.List.{AllByRecursion}
 use Rattle.std.specs.List.Sorted.{IsPermutation, IsSorted}
 use Rattle.std.specs.Ordering.{nat_cmp}
+use Rattle.xc_forest.specs.Laws.{SumsAreOver}
 use Rattle.xc_joint.specs.Steps.Multiplied.{IsContradicted, IsMadeOf, IsListed, IsSigned, bindings_of, lows_of, highs_of}
 use Rattle.xc_joint.specs.Steps.OneForest.{AreEach, IsSign}
 use Rattle.xc_joint.specs.Steps.UnitSums.{HasUnits}
@@ -46,12 +47,12 @@ has_units c spans by ends r made = record {
   highs = All-from_recursion (λ m. IsSign false m.1) r.highs (listed_ones made.highs r.highs made.highs_listed);
 }
 
-pub contradiction_of : (s : Constraints) (c : Component) (spans : List Span) (by ends : List ℤ) (r : Multipliers) → IsContradicted s c spans by ends → IsMadeOf c spans by ends r → IsContradictionOf s c r
-contradiction_of s c spans by ends r h made = record {
+pub contradiction_of : SumsAreOver → (s : Constraints) (c : Component) (spans : List Span) (by ends : List ℤ) (r : Multipliers) → IsContradicted s c spans by ends → IsMadeOf c spans by ends r → IsContradictionOf s c r
+contradiction_of sums_over s c spans by ends r h made = record {
   kept = are_kept s c spans by ends r (placed_in s) h made;
   bindings = bindings_own s c spans by ends r (placed_in s) h made;
   lows = lows_own s c spans by ends r (placed_in s) h made;
   highs = highs_own s c spans by ends r (placed_in s) h made;
   cancels = cancels s c spans by ends r (placed_in s) h made;
-  short = is_short s c spans by ends r h made;
+  short = is_short sums_over s c spans by ends r h made;
 }

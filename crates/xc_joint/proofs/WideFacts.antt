@@ -8,9 +8,8 @@ use Rattle.xc_joint.proofs.EmptyPoints.{before_first, none_in}
 use Rattle.xc_joint.specs.Causes.{IsWideOf}
 use Rattle.xc_joint.specs.Steps.Wides.{IsLeastIn, IsWideAt, IsWideBefore}
 use Rattle.xc_lists.specs.Places.{least}
-use Rattle.xc_system.proofs.Joins.{is_in_at, place_of}
-use Rattle.xc_system.proofs.Places.{in_places, places_ascend, places_in}
-use Rattle.xc_system.specs.Members.{IsIn}
+use Rattle.xc_lists.proofs.Members.{in_places, is_in_at, place_of, places_ascend, places_in}
+use Rattle.xc_lists.specs.Members.{IsIn}
 use Rattle.xc_system.specs.Spots.{is_wide_fact}
 use Rattle.xc_system.specs.Systems.{Constraints, facts_of, point_at}
 use Rattle.xc_system.specs.declared.types.Bound.{Bound}

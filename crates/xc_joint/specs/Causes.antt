@@ -7,7 +7,7 @@ use Rattle.xc_joint.specs.declared.types.Cause.{Cause}
 use Rattle.xc_joint.specs.declared.types.Cause.TheVariants.{Fact, Ends}
 use Rattle.xc_model.specs.Ratio.{Ratio}
 use Rattle.xc_system.specs.Kept.{Multipliers}
-use Rattle.xc_system.specs.Members.{IsIn}
+use Rattle.xc_lists.specs.Members.{IsIn}
 use Rattle.xc_system.specs.Spots.{AreTightest, is_wide_fact}
 use Rattle.xc_system.specs.Systems.{Constraints, facts_of, point_at, range_at}
 use Rattle.xc_system.specs.declared.types.Component.{Component}

@@ -17,7 +17,7 @@ use Rattle.xc_model.specs.Parts.{Parts}
 use Rattle.xc_model.specs.Ratio.{Ratio}
 use Rattle.xc_system.specs.Components.{IsComponent}
 use Rattle.xc_system.specs.Forests.{IsNarrow, IsNarrowForest, total_reach}
-use Rattle.xc_system.specs.Members.{IsIn}
+use Rattle.xc_lists.specs.Members.{IsIn}
 use Rattle.xc_system.specs.Systems.{Constraints, equation_at}
 use Rattle.xc_system.specs.declared.types.Component.{Component}
 use Rattle.xc_verify.specs.Feasible.{equation_terms}

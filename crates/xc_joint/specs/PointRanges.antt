@@ -6,7 +6,7 @@ use Rattle.xc_interval.specs.declared.interval.Interval.{Interval}
 use Rattle.xc_joint.specs.Small.{low_pair, high_pair}
 use Rattle.xc_model.specs.Parts.{Parts}
 use Rattle.xc_model.specs.Ratio.{Ratio}
-use Rattle.xc_system.specs.Members.{IsIn}
+use Rattle.xc_lists.specs.Members.{IsIn}
 use Rattle.xc_system.specs.Systems.{Constraints, facts_of, range_at}
 use Rattle.xc_system.specs.declared.types.Component.{Component}
 

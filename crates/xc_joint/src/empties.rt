@@ -10,6 +10,7 @@ use xc_frac::{Frac, Scalar, Wide};
 use xc_interval::Range;
 use xc_interval::laws::{ends_tell, one_range, tighter_ends};
 use xc_lists::Memory;
+use xc_system::laws::components_are_closed;
 use xc_system::{Component, Refutation, System};
 use xc_verify::constant;
 use xc_verify::laws::one_sum;
@@ -28,6 +29,7 @@ pub fn first_empty(system: &System, component: &Component) -> Option<EmptyPoint>
     ensures some { IfSome result (IsFirstFound system.now component.now) }
     ensures none { IfNone result (HasNoEmpty system.now component.now) }
 {
+    components_are_closed();
     for point in component.points.as_slice() {
         if let Some(found) = empty_at(system, *point) {
             return Some(found);

@@ -6,7 +6,11 @@ ghost use Rattle.xc_joint.specs.Laws.{NarrowForestsHaveNumbers, NumbersAreValues
 ghost use Rattle.xc_joint.specs.Steps.UnitSums.{UnitRefutationsSum};
 
 use xc_frac::Exact;
-use xc_system::laws::{components_decide, contradictions_exclude};
+use xc_interval::laws::tighter_ends;
+use xc_system::laws::{
+    components_decide, contradictions_exclude, equations_name_points, links_are_equivalences,
+};
+use xc_verify::laws::sums_go_on;
 
 /// A positive number that is small enough puts each value between its ends, open or closed.
 pub fn small_solves()
@@ -34,7 +38,9 @@ pub fn narrow_forests_have_numbers()
 /// Numbers that solve the ranges and the rows of a component are values of it.
 pub fn numbers_are_values()
     ensures { NumbersAreValues }
-{}
+{
+    tighter_ends();
+}
 
 /// No operation passes where the checker sums an equation of a narrow forest over such numbers.
 pub fn numbers_have_sums()
@@ -44,7 +50,9 @@ pub fn numbers_have_sums()
 /// Where a refutation with units contradicts a narrow forest, no operation passes in the sums by which it is judged.
 pub fn unit_refutations_sum()
     ensures { UnitRefutationsSum }
-{}
+{
+    sums_go_on();
+}
 
 /// All that can be answered of a system is of one kind: values exist, none do, some component has no answer, or this
 /// component is the first that is not settled.
@@ -53,4 +61,6 @@ pub fn one_kind()
 {
     contradictions_exclude();
     components_decide();
+    links_are_equivalences();
+    equations_name_points();
 }

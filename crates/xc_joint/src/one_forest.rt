@@ -5,7 +5,7 @@ ghost use Rattle.std.specs.Ordering.{nat_cmp};
 ghost use Rattle.xc_joint.specs.Steps.OneForest.{AreEach, AreRowsOf, HasSome, IsBounded, IsRangeOf, IsRowOf, IsSolved, IsSign, IsSignedPlace, IsSpanOf};
 ghost use Rattle.xc_system.specs.Components.{IsComponent};
 ghost use Rattle.xc_system.specs.Forests.{IsNarrowForest, IsUnit};
-ghost use Rattle.xc_system.specs.Members.{IsIn};
+ghost use Rattle.xc_lists.specs.Members.{IsIn};
 ghost use Rattle.xc_system.specs.Systems.{IsSmall, IsSystem, equation_at, range_at};
 
 use crate::small::Halt;
@@ -13,7 +13,9 @@ use crate::solving::{Solution, solve};
 use std::alloc::Global;
 use xc_frac::Frac;
 use xc_interval::Interval;
+use xc_interval::laws::{ends_tell, ranges_have_numbers};
 use xc_lists::{Items, Memory};
+use xc_system::laws::{components_are_closed, equations_name_points};
 use xc_system::{Component, Entry, System};
 
 /// The facts of a point that bound it.
@@ -40,6 +42,9 @@ pub(crate) fn solved(
     requires ranges { AreEach (IsBounded system.now) component.now.points ranges.now }
     ensures { IfOk result (IsSolved system.now component.now ranges.now) }
 {
+    ends_tell();
+    components_are_closed();
+    equations_name_points();
     let rows = rows(alloc, system, component)?;
     match solve(alloc, ranges, Items::of(rows)) {
         Ok(solution) => Ok(solution),
@@ -65,6 +70,7 @@ fn span_of(system: &System, point: u32) -> Span
     requires { HasSome system.now point }
     ensures { IsSpanOf system.now point result }
 {
+    ranges_have_numbers();
     let spot = system.spot(point);
     Span {
         low: spot.low,

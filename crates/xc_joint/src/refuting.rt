@@ -9,6 +9,7 @@ ghost use Rattle.xc_joint.specs.Steps.OneForest.{AreEach, IsSign};
 
 use crate::one_forest::Span;
 use std::alloc::Global;
+use xc_forest::laws::sums_are_over;
 use xc_frac::{Frac, ratio};
 use xc_lists::Memory;
 use xc_system::{Component, Refutation, System};
@@ -27,6 +28,7 @@ pub(crate) fn refutation(
     ensures contradicts { IfOk result (IsContradictionOf system.now component.now) }
     ensures units { IfOk result HasUnits }
 {
+    sums_are_over();
     let _system = system;
     let low_facts = lows(alloc, spans, ends)?;
     let high_facts = highs(alloc, spans, ends)?;

@@ -5,7 +5,7 @@ ghost use Rattle.std.specs.Ordering.{nat_cmp};
 ghost use Rattle.xc_joint.specs.Answers.{Answers, IsAnswer};
 ghost use Rattle.xc_joint.specs.Steps.Settling.{AreAmong, AreReady, IsFound, IsReady, IsTold};
 ghost use Rattle.xc_system.specs.Components.{AreComponents, IsComponent};
-ghost use Rattle.xc_system.specs.Members.{IsIn};
+ghost use Rattle.xc_lists.specs.Members.{IsIn};
 
 use crate::empties::{Ended, first_empty, refute_empty};
 use crate::fault::SettleFault;
@@ -15,16 +15,18 @@ use crate::wides::least_wide;
 use std::alloc::Global;
 use xc_frac::{Exact, Frac};
 use xc_lists::{Items, Memory};
-use xc_system::laws::components_decide;
+use xc_system::laws::{components_are_closed, components_decide, links_are_equivalences};
 use xc_system::{
     Certificate, Component, Refutation, Scratch, System, components, is_narrow_forest,
 };
+use xc_verify::laws::proofs_are_accepted;
 
 /// Whether one value for each point satisfies all facts and all equations: an answer, or the first component that
 /// is not settled.
 pub fn settle(alloc: Global, system: &System) -> Result<Joint, SettleFault>
     ensures { Answers system.now result }
 {
+    links_are_equivalences();
     let Ok(components) = components(alloc, system) else {
         return Err(SettleFault::Memory);
     };
@@ -97,7 +99,10 @@ fn gather(alloc: Global, system: &System, components: &[Component]) -> Result<Jo
     requires ready { AreReady system.now components.now (length components.now) }
     ensures { IfOk result (IsAnswer system.now) }
 {
+    components_are_closed();
     components_decide();
+    links_are_equivalences();
+    proofs_are_accepted();
     let mut all = zeros(alloc, system.points())?;
     let mut parts = Vec::new(alloc);
     let mut caused = false;

@@ -6,6 +6,7 @@ ghost use Rattle.xc_lists.specs.Places.{least};
 ghost use Rattle.xc_system.specs.Components.{IsComponent};
 ghost use Rattle.xc_system.specs.Spots.{is_wide_fact};
 
+use xc_system::laws::components_are_closed;
 use xc_system::{Component, System};
 
 /// The wide fact of least number of a component.
@@ -13,6 +14,7 @@ pub fn least_wide(system: &System, component: &Component) -> Option<u32>
     requires { IsComponent system.now component.now }
     ensures { IsLeastIn (IsWideOf system.now component.now) result }
 {
+    components_are_closed();
     let mut least = None;
     for point in component.points.as_slice() {
         least = lesser(least, wide_at(system, *point));

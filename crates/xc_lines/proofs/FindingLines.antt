@@ -6,10 +6,10 @@ use Rattle.std.proofs.lemmas.List.Elements.{All-weaker, recursion_from_All}
 use Rattle.std.proofs.lemmas.Slice.Zip.{length-zip}
 use Rattle.xc_bind.specs.declared.types.Verdict.{Verdict}
 use Rattle.xc_bind.specs.declared.types.Verdict.TheVariants.{Consistent, Inconsistent, Unjudged, TooWide}
-use Rattle.xc_cert.proofs.Lacking.{decimal_lacks, lacks_append, lacks_by}
+use Rattle.xc_lists.proofs.Lacking.{decimal_lacks, lacks_append, lacks_by}
 use Rattle.xc_cert.specs.Certificates.{IsPassed, IsPassedText, opening}
 use Rattle.xc_cert.specs.Laws.{PassedTextsJoin}
-use Rattle.xc_cert.specs.Steps.Lines.{Lacks}
+use Rattle.xc_lists.specs.Members.{Lacks}
 use Rattle.xc_interval.specs.Ranges.{is_empty_range}
 use Rattle.xc_interval.specs.declared.mode.Mode.{Mode}
 use Rattle.xc_interval.specs.declared.mode.Mode.TheVariants.{Rounding, Truncation}

@@ -2,7 +2,7 @@
 use Rattle.std.proofs.Common.{ℕ, ◌<◌, ◌^◌, List, ◌++◌, refl, subst, arith, append_assoc}
 use Rattle.std.specs.Prelude.{codes, decimal}
 use Rattle.std.specs.List.{enumerate_from}
-use Rattle.xc_cert.proofs.Lacking.{lacks_append, lacks_by}
+use Rattle.xc_lists.proofs.Lacking.{lacks_append, lacks_by}
 use Rattle.xc_cert.specs.Certificates.{IsCertificate, IsPassedText, IsTextOf, certificate_text}
 use Rattle.xc_cert.specs.Laws.{PassedTextsJoin, WrittenIsText}
 use Rattle.xc_lines.specs.Laws.{SettledIsText}

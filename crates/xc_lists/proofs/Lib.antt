@@ -1,6 +1,9 @@
 pub mod Anys
 pub mod EqualPairs
 pub mod FirstPlaces
+pub mod Lacking
 pub mod ListsOfImages
+pub mod Members
+pub mod Onces
 pub mod Positions
 pub mod Ranges

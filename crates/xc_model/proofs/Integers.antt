@@ -1,12 +1,16 @@
 -- Whole numbers: the laws of products that std lacks, the order under products, magnitudes.
 --
 -- An equation of polynomials is `simp ring (omega (arith, ints))`, or `simp ring` alone where it has only products.
-use Rattle.std.proofs.Common.{◌≡◌, ◌≢◌, ℕ, zero, suc, ◌+◌, ◌*◌, ◌<◌, ◌≤◌, ℤ, pos, negsuc, ◌+ℤ◌, ◌*ℤ◌, neg_ℤ, ◌≤ℤ◌, ◌<ℤ◌, refl, ap, sym, ◌∙◌, arith}
+use Rattle.std.proofs.Common.{◌≡◌, ◌≢◌, ℕ, zero, suc, ◌+◌, ◌*◌, ◌<◌, ◌≤◌, ℤ, pos, negsuc, ◌+ℤ◌, ◌*ℤ◌, neg_ℤ, ◌≤ℤ◌, ◌<ℤ◌, ◌⊎◌, refl, ap, sym, ◌∙◌, arith}
 use Rattle.std.specs.Prelude.{unsigned_abs}
 use Rattle.std.proofs.lemmas.Int.{ints, by_lt_z, unsigned_abs-mul}
 use borrow.Author.Differences.{up, down, same_in, product_is, sum_is_lem, neg_is, at_most_in, below_in, le_out, lt_out}
 use Rattle.std.proofs.Math.Nat.{mul-le-mul_left, le-mul_of_pos_right}
 use Rattle.xc_model.specs.Width.{IsNarrow, IsWide}
+
+-- of two numbers one is less, or the other is at most as great
+pub lt_or_le : (a b : ℕ) → (a < b) ⊎ (b ≤ a)
+lt_or_le a b = grind arith
 
 up-mul : (a b : ℤ) → up (a *ℤ b) ≡ up a * up b + down a * down b
 up-mul a b = (product_is a b).0

@@ -9,3 +9,4 @@ pub mod NumbersOver
 pub mod Orders
 pub mod Over
 pub mod Quotients
+pub mod Signs

@@ -13,7 +13,7 @@ use Rattle.xc_system.proofs.Parts.{point_within}
 use Rattle.xc_system.proofs.Trees.{has, vertices, count, count_in, in_count, count_once, once_count, has_row, point_none, row_none, in_left, in_right, in_either, in_map, from_map, below, entries_on, tree_from_count, count_from_tree}
 use Rattle.xc_system.specs.Components.{HasPoint, IsComponent}
 use Rattle.xc_system.specs.Forests.{Vertex, a_point, an_equation, IsNext, IsOf, IsThin, IsForest}
-use Rattle.xc_system.specs.Members.{IsIn, IsOnce}
+use Rattle.xc_lists.specs.Members.{IsIn, IsOnce}
 use Rattle.xc_system.specs.Steps.Measured.{entries_of}
 use Rattle.xc_system.specs.Systems.{Constraints, IsSystem, equation_at, points_of}
 use Rattle.xc_system.specs.declared.types.Component.{Component}

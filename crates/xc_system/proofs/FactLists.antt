@@ -5,8 +5,8 @@ use Rattle.std.proofs.lemmas.List.{length-map}
 use Rattle.std.proofs.lemmas.List.FromFn.{length-map-range_with_len, get_or-map-range_with_len}
 use Rattle.std.specs.Prelude.{All}
 use Rattle.std.specs.List.{list_any}
-use Rattle.xc_system.proofs.Places.{in_places, places_in}
-use Rattle.xc_system.specs.Members.{IsIn}
+use Rattle.xc_lists.proofs.Members.{in_places, places_in}
+use Rattle.xc_lists.specs.Members.{IsIn}
 use Rattle.xc_system.specs.Steps.Indexed.{IsIndexOf}
 use Rattle.xc_system.specs.Systems.{HasBound, facts_of}
 use Rattle.xc_system.specs.declared.types.Bound.{Bound}

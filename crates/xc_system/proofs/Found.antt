@@ -9,11 +9,11 @@ use Rattle.std.proofs.lemmas.Option.{slice_get_within, get_or_from_slice_get, sl
 use Rattle.std.specs.List.{AllByRecursion, zip}
 use Rattle.std.specs.Option.{option_map_or}
 use Rattle.xc_lists.specs.Places.{before}
-use Rattle.xc_system.proofs.Joins.{linked_from_roots, root_least, is_in_at}
+use Rattle.xc_system.proofs.Joins.{linked_from_roots, root_least}
+use Rattle.xc_lists.proofs.Members.{first_least, in_places, is_in_at, places_ascend, places_in}
 use Rattle.xc_system.proofs.Links.{has_within}
-use Rattle.xc_system.proofs.Places.{in_places, places_in, places_ascend, first_least}
 use Rattle.xc_system.specs.Components.{HasPoint, IsLinked, itself, by, IsComponent, AreComponents, least_of}
-use Rattle.xc_system.specs.Members.{IsIn, places_with}
+use Rattle.xc_lists.specs.Members.{IsIn, places_with}
 use Rattle.xc_system.specs.Steps.Owned.{owner_of, component_of}
 use Rattle.xc_system.specs.Steps.Roots.{IsRoots, IsJoined, rank}
 use Rattle.xc_system.specs.Systems.{Constraints, equation_at, points_of}

@@ -1,6 +1,6 @@
 -- Graphs by how often each vertex has each other one: `has r p` is how often vertex r has vertex p.
 use Rattle.std.specs.Prelude.{◌≡◌, ℕ, ◌+◌, ◌≤◌, ◌<◌, List, [], ◌∷◌}
-use Rattle.xc_system.specs.Members.{IsIn, IsOnce}
+use Rattle.xc_lists.specs.Members.{IsIn, IsOnce}
 
 abbrev pub sum_on : List ℕ → (ℕ → ℕ) → ℕ
 sum_on [] f = 0

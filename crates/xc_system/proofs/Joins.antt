@@ -3,21 +3,11 @@ use Rattle.std.proofs.Common.{◌≡◌, ℕ, zero, suc, ◌+◌, ◌<◌, ◌�
 use Rattle.std.proofs.lemmas.Bool.{cases_eq, eq-eqb, ne_eqb}
 use Rattle.xc_system.proofs.Links.{linked_trans, linked_sym}
 use Rattle.xc_system.specs.Components.{HasPoint, IsLinked, itself, by}
-use Rattle.xc_system.specs.Members.{IsIn}
+use Rattle.xc_lists.specs.Members.{IsIn}
 use Rattle.xc_system.specs.Steps.Roots.{Descends, IsRoots, IsJoined, joined}
 use Rattle.xc_system.specs.Systems.{equation_at, points_of}
 use Rattle.xc_system.specs.declared.types.Equation.{Equation}
-
--- a member stands at some place, and what stands at a place is a member
-pub place_of : (p : ℕ) (xs : List ℕ) → IsIn p xs → (j : ℕ) × (j < length xs) × (get_or xs j 0 ≡ p)
-place_of p [] h = absurd h
-place_of p (x ∷ xs) (inl e) = (0, omega arith, sym e)
-place_of p (x ∷ xs) (inr h) = let r = place_of p xs h in let l = r.1 in (suc r.0, omega arith, r.2)
-
-pub is_in_at : (xs : List ℕ) (j : ℕ) → j < length xs → IsIn (get_or xs j 0) xs
-is_in_at [] j h = absurd (omega arith)
-is_in_at (x ∷ xs) zero h = inl refl
-is_in_at (x ∷ xs) (suc j) h = inr (is_in_at xs j (omega arith))
+use Rattle.xc_lists.proofs.Members.{is_in_at, place_of}
 
 -- the numbers that a and b stand for
 joined_left : (root : ℕ → ℕ) (a b : ℕ) → joined root a b a ≡ min (root a) (root b)

@@ -12,7 +12,7 @@ use Rattle.xc_system.proofs.Links.{is_in, has_within, closed, owned}
 use Rattle.xc_system.specs.Components.{HasPoint, IsComponent, Holding}
 use Rattle.xc_system.specs.Kept.{Multipliers}
 use Rattle.xc_system.specs.Laws.{JoinedSolve, PartsSolved, PartContradicts}
-use Rattle.xc_system.specs.Members.{IsIn}
+use Rattle.xc_lists.specs.Members.{IsIn}
 use Rattle.xc_system.specs.Refutations.{IsKnownIn, coefficient, total, unit_at}
 use Rattle.xc_system.specs.Solutions.{Assignment, IsZero, Admits, Holds, weighed}
 use Rattle.xc_system.specs.Systems.{Constraints, IsSystem, point_at, equation_at, points_of}

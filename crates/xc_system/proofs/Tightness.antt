@@ -12,7 +12,7 @@ use Rattle.xc_interval.specs.declared.range.Range.{Range}
 use Rattle.xc_interval.specs.declared.range.Range.TheVariants as range
 use Rattle.xc_model.specs.Fraction.{SameNumber, IsBelow}
 use Rattle.xc_model.specs.Ratio.{Ratio}
-use Rattle.xc_system.specs.Members.{IsIn}
+use Rattle.xc_lists.specs.Members.{IsIn}
 use Rattle.xc_system.specs.Spots.{AreTightest, HasTighter, IsFirstTightest, is_wide_fact, low_end, high_end}
 use Rattle.xc_system.specs.Systems.{range_at}
 use Rattle.xc_system.specs.declared.types.Bound.{Bound}

@@ -12,10 +12,11 @@ use Rattle.xc_system.proofs.Counts.{sum_same, sum_plus, sum_zero, removed, remov
 use Rattle.xc_system.proofs.Graphs.{sum_on, joins, IsThinBy, edges, IsConnected, IsListingOf, IsSimple}
 use Rattle.xc_system.proofs.Links.{is_in, linked_sym, closed, owned}
 use Rattle.xc_system.specs.Components.{HasPoint, IsLinked, itself, by, IsComponent, least_of}
-use Rattle.xc_system.specs.Members.{IsIn, IsOnce}
+use Rattle.xc_lists.specs.Members.{IsIn, IsOnce}
 use Rattle.xc_system.specs.Systems.{Constraints, equation_at, points_of}
 use Rattle.xc_system.specs.declared.types.Component.{Component}
 use Rattle.xc_system.specs.declared.types.Equation.{Equation}
+use Rattle.xc_lists.proofs.Members.{once_of_ascending}
 
 pub in_left : (v : ℕ) (xs ys : List ℕ) → IsIn v xs → IsIn v (xs ++ ys)
 in_left v [] ys h = absurd h
@@ -43,20 +44,6 @@ from_map n v (q ∷ qs) (inr k) = go (from_map n v qs k)
   where
     go : ((i : ℕ) × IsIn i qs × (v ≡ n + i)) → (i : ℕ) × IsIn i (q ∷ qs) × (v ≡ n + i)
     go (i, a, e) = (i, inr a, e)
-
--- what ascends is there once
-pub once_of_ascending : (xs : List ℕ) → IsStrictlySortedBy nat_cmp xs → IsOnce xs
-unfolding IsStrictlySortedBy
-once_of_ascending [] h = tt
-once_of_ascending (x ∷ xs) h = (none xs h.0, once_of_ascending xs h.1)
-  where
-    never : (x y : ℕ) → nat_cmp x y ≡ Less → x ≡ y → ⊥
-    never x y e f = grind (arith, nat_tests)
-
-    none : (ys : List ℕ) → AllByRecursion (λ y. nat_cmp x y ≡ Less) ys → IsIn x ys → ⊥
-    none [] a i = i
-    none (y ∷ ys) a (inl e) = never x y a.0 e
-    none (y ∷ ys) a (inr i) = none ys a.1 i
 
 -- how often p stands in a list
 abbrev pub count : List ℕ → ℕ → ℕ

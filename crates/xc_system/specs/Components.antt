@@ -2,7 +2,7 @@
 use Rattle.std.specs.Prelude.{◌≡◌, ℕ, ◌<◌, ◌↔◌, List, Some, slice_get, slice_index}
 use Rattle.std.specs.List.Sorted.{IsStrictlySortedBy}
 use Rattle.std.specs.Ordering.{nat_cmp}
-use Rattle.xc_system.specs.Members.{IsIn}
+use Rattle.xc_lists.specs.Members.{IsIn}
 use Rattle.xc_system.specs.Systems.{Constraints, equation_at, points_of}
 use Rattle.xc_system.specs.declared.types.Component.{Component}
 use Rattle.xc_system.specs.declared.types.Equation.{Equation}

@@ -6,7 +6,7 @@ use Prim.Native.Nat.{◌∣◌}
 use Rattle.xc_interval.specs.Scales.{HasEndsOnScale, greatest_end}
 use Rattle.xc_model.specs.Ratio.{Ratio}
 use Rattle.xc_system.specs.Components.{HasPoint}
-use Rattle.xc_system.specs.Members.{IsIn, IsOnce}
+use Rattle.xc_lists.specs.Members.{IsIn, IsOnce}
 use Rattle.xc_system.specs.Systems.{Constraints, equation_at, points_of, facts_of, range_at}
 use Rattle.xc_system.specs.declared.types.Component.{Component}
 use Rattle.xc_system.specs.declared.types.Equation.{Equation}

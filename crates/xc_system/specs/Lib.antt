@@ -2,7 +2,6 @@ pub mod Components
 pub mod Forests
 pub mod Kept
 pub mod Laws
-pub mod Members
 pub mod Refutations
 pub mod Solutions
 pub mod Spots

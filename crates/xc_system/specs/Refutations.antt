@@ -7,7 +7,7 @@ use Rattle.xc_interval.specs.Ends.{value_of, is_open}
 use Rattle.xc_model.specs.Fraction.{Fraction, whole, sum_of, difference_of, product_of}
 use Rattle.xc_model.specs.Ratio.{Ratio, fraction_of}
 use Rattle.xc_system.specs.Kept.{Multipliers, IsRefutation}
-use Rattle.xc_system.specs.Members.{IsIn}
+use Rattle.xc_lists.specs.Members.{IsIn}
 use Rattle.xc_system.specs.Solutions.{Assignment, IsZero, IsNegative, MayAdmit, Holds, weighed}
 use Rattle.xc_system.specs.Systems.{Constraints, equation_at, range_at, point_at}
 use Rattle.xc_system.specs.declared.types.Bound.{Bound}

@@ -3,7 +3,7 @@ use Rattle.std.specs.Prelude.{◌≡◌, ℕ, pos, ◌<ℤ◌, List, [], ◌∷�
 use Rattle.xc_interval.specs.Intervals.{numbers_of, HasNumber}
 use Rattle.xc_model.specs.Fraction.{Fraction, whole, sum_of, product_of}
 use Rattle.xc_model.specs.Ratio.{fraction_of}
-use Rattle.xc_system.specs.Members.{IsIn}
+use Rattle.xc_lists.specs.Members.{IsIn}
 use Rattle.xc_system.specs.Systems.{Constraints}
 use Rattle.xc_system.specs.declared.types.Bound.{Bound}
 use Rattle.xc_system.specs.declared.types.Component.{Component}

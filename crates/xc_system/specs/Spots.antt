@@ -10,7 +10,7 @@ use Rattle.xc_interval.specs.declared.range.Range.{Range}
 use Rattle.xc_interval.specs.declared.range.Range.TheVariants as range
 use Rattle.xc_model.specs.Fraction.{Fraction, SameNumber, IsBelow, whole}
 use Rattle.xc_model.specs.Ratio.{fraction_of}
-use Rattle.xc_system.specs.Members.{IsIn}
+use Rattle.xc_lists.specs.Members.{IsIn}
 use Rattle.xc_system.specs.Systems.{facts_of, range_at}
 use Rattle.xc_system.specs.declared.types.Bound.{Bound}
 use Rattle.xc_system.specs.declared.types.Side.{Side}

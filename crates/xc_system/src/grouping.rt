@@ -1,7 +1,7 @@
 // Places of a list, by what stands there.
 ghost use Rattle.std.specs.Prelude.{◌≡◌, ◌<◌, ◌^◌, length, map, IfOk};
 ghost use Rattle.xc_lists.specs.Places.{before};
-ghost use Rattle.xc_system.specs.Members.{places_with};
+ghost use Rattle.xc_lists.specs.Members.{places_with};
 
 use std::alloc::Global;
 use xc_lists::{Items, Memory};

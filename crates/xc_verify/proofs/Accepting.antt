@@ -9,10 +9,10 @@ use Rattle.xc_frac.specs.declared.wide.Wide.{Wide}
 use Rattle.xc_interval.specs.Intervals.{numbers_of, HasNumber}
 use Rattle.xc_interval.specs.declared.interval.Interval.{Interval}
 use Rattle.xc_model.specs.Ratio.{Ratio, fraction_of}
-use Rattle.xc_system.proofs.Places.{places_in}
+use Rattle.xc_lists.proofs.Members.{places_in}
 use Rattle.xc_system.specs.Kept.{Multipliers, IsRefutation}
 use Rattle.xc_system.specs.Laws.{ExcludesSolutions}
-use Rattle.xc_system.specs.Members.{IsIn}
+use Rattle.xc_lists.specs.Members.{IsIn}
 use Rattle.xc_system.specs.Refutations.{IsContradiction, IsShort, coefficient, constant}
 use Rattle.xc_system.specs.Solutions.{IsZero, Admits, Holds, Solves, weighed}
 use Rattle.xc_system.specs.Systems.{Constraints, IsSystem, equation_at, facts_of, range_at}
@@ -20,7 +20,8 @@ use Rattle.xc_system.specs.declared.types.Bound.{Bound}
 use Rattle.xc_system.specs.declared.types.Certificate.{Certificate}
 use Rattle.xc_system.specs.declared.types.Certificate.TheVariants.{Feasible, Infeasible}
 use Rattle.xc_system.specs.declared.types.Equation.{Equation}
-use Rattle.xc_verify.proofs.Amounts.{amount, zero_same, negative_same, ends_worth, equation_worth, coefficient_worth, constant_worth}
+use Rattle.xc_model.proofs.Signs.{negative_same, zero_same}
+use Rattle.xc_verify.proofs.Amounts.{amount, ends_worth, equation_worth, coefficient_worth, constant_worth}
 use Rattle.xc_verify.proofs.Known.{bindings_there, lows_known, highs_known}
 use Rattle.xc_verify.specs.Feasible.{assigned, equation_terms, IsMetInside, AreValuesMet}
 use Rattle.xc_verify.specs.Infeasible.{coefficient_terms, constant_terms, FallsShort, IsRefutationMet}

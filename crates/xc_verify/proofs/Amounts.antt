@@ -8,8 +8,8 @@ use Rattle.xc_frac.specs.declared.wide.Wide.{Wide}
 use Rattle.xc_interval.specs.Ends.{value_of}
 use Rattle.xc_interval.specs.declared.interval.Interval.{Interval}
 use Rattle.xc_model.proofs.Arithmetic.{sum-assoc, sum-comm, sum-zero, product-one, product-sum}
-use Rattle.xc_model.proofs.Integers.{ring, cancel, cancel_lt, scale_lt, mul_comm}
-use Rattle.xc_model.proofs.Numbers.{den_positive, den_some, same-refl, same-sym, same-trans, same-sum, same-product, same-neg}
+use Rattle.xc_model.proofs.Integers.{ring}
+use Rattle.xc_model.proofs.Numbers.{same-refl, same-sym, same-trans, same-sum, same-product, same-neg}
 use Rattle.xc_model.specs.Fraction.{Fraction, SameNumber, whole, neg_of, sum_of, product_of}
 use Rattle.xc_model.specs.Ratio.{Ratio, fraction_of}
 use Rattle.xc_system.specs.Kept.{Multipliers}
@@ -53,18 +53,6 @@ no_more f x y h = same-trans _ _ _ h (same-sym _ _ (same-trans _ _ _ (same-sum _
 -- nor does its negative
 no_less : (f x y : Fraction) → SameNumber x (neg_of y) → SameNumber x (neg_of (sum_of (product_of f (whole (pos 0))) y))
 no_less f x y h = same-trans _ _ _ h (same-neg _ _ (no_more f y y (same-refl y)))
-
--- numbers that are the same have one sign
-pub zero_same : (x y : Fraction) → SameNumber x y → IsZero x → IsZero y
-zero_same x y h z =
-    let e : y.num *ℤ pos x.den ≡ pos 0 *ℤ pos y.den = sym h.cross ∙ ap (λ (n : ℤ). n *ℤ pos y.den) z in
-    cancel (pos x.den) y.num (pos 0) (den_some x) (omega (arith, ints, e, mul_comm (pos x.den) y.num))
-
-pub negative_same : (x y : Fraction) → SameNumber x y → IsNegative x → IsNegative y
-negative_same x y h z =
-    let e : x.num *ℤ pos y.den ≡ y.num *ℤ pos x.den = h.cross in
-    let less : (pos y.den *ℤ x.num) <ℤ (pos y.den *ℤ pos 0) = scale_lt (pos y.den) x.num (pos 0) (den_positive y) z in
-    cancel_lt (pos x.den) y.num (pos 0) (den_positive x) (omega (arith, ints, e, less, mul_comm (pos x.den) y.num, mul_comm (pos y.den) x.num))
 
 -- a sum that ends is what its terms are worth
 apart : {X Y : Type 0} (x : X) (y : Y) → Ok x ≡ Err y → ⊥

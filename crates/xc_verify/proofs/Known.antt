@@ -1,15 +1,16 @@
 -- What lines and judgements name.
-use Rattle.std.proofs.Common.{◌≡◌, ◌<◌, ℕ, List, [], ◌∷◌, length, slice_index, Bool, true, false, cond, ◌==◌, min, Option, Some, None, Result, Ok, Err, inl, inr, refl, sym, subst}
+use Rattle.std.proofs.Common.{◌≡◌, ◌<◌, ℕ, List, [], ◌∷◌, length, slice_index, Bool, true, false, cond, ◌==◌, min, Option, Some, None, Result, Ok, Err, inl, inr, refl, sym, subst, map, arith}
 use Rattle.std.proofs.lemmas.List.Elements.{All-from_recursion}
+use Rattle.std.proofs.lemmas.List.{length-map}
 use Rattle.std.proofs.lemmas.Option.{slice_get_within}
 use Rattle.std.specs.List.{AllByRecursion}
 use Rattle.std.specs.Option.{option_map_or, option_or}
 use Rattle.std.specs.Prelude.{All, IsSomeAnd, IfSome, slice_get}
 use Rattle.xc_frac.specs.declared.wide.Wide.{Wide}
 use Rattle.xc_interval.specs.declared.interval.Interval.{Interval}
+use Rattle.xc_lists.proofs.Members.{in_places, is_in_at}
 use Rattle.xc_lists.specs.Places.{first_given}
 use Rattle.xc_model.specs.Ratio.{Ratio}
-use Rattle.xc_system.proofs.FactLists.{facts_known}
 use Rattle.xc_system.specs.Kept.{Multipliers}
 use Rattle.xc_system.specs.Refutations.{IsKnown}
 use Rattle.xc_system.specs.Systems.{Constraints, facts_of, range_at, equation_at}
@@ -105,6 +106,10 @@ Names bounds (Misses what) = Unit {0}
 Names bounds (WideFact k) = k < length bounds
 Names bounds (TooWide what w) = IsSummed what
 
+-- the facts of a point are facts
+pub fact_of_point : (bounds : List Bound) (p i : ℕ) → i < length (facts_of bounds p) → slice_index (facts_of bounds p) i < length bounds
+fact_of_point bounds p i h = omega (arith, length-map bounds (λ b. b.point), (in_places (map (λ b. b.point) bounds) p _ (is_in_at (facts_of bounds p) i h)).0)
+
 module _ (bounds : List Bound) where
   abbrev Fine : (Option Objection → Type 0) → Type 0
   Fine Met = (o : Objection) → Met (Some o) → Names bounds o
@@ -162,7 +167,7 @@ module _ (bounds : List Bound) where
 
   fine_point : (values : List Ratio) (p : ℕ) → Fine (IsMetAtPoint bounds values p)
   fine_point values p = fine_below (length (facts_of bounds p)) (λ i o. IsMetInside (slice_index (facts_of bounds p) i) values p (range_at bounds (slice_index (facts_of bounds p) i)) o)
-      (λ i h. fine_inside (slice_index (facts_of bounds p) i) values p _ (facts_known bounds p i 0 h))
+      (λ i h. fine_inside (slice_index (facts_of bounds p) i) values p _ (fact_of_point bounds p i h))
 
 fine_count : (bounds : List Bound) (points : ℕ) (values : List Ratio) → IfSome (count_objection points values) (Names bounds)
 fine_count bounds points values = go (length values == points)

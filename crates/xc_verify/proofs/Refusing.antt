@@ -14,11 +14,9 @@ use Rattle.xc_lists.specs.Places.{first_given}
 use Rattle.xc_model.proofs.Numbers.{same-sym, same-trans}
 use Rattle.xc_model.specs.Fraction.{SameNumber}
 use Rattle.xc_model.specs.Ratio.{Ratio, fraction_of}
-use Rattle.xc_system.proofs.FactLists.{facts_known}
-use Rattle.xc_system.proofs.Joins.{is_in_at}
-use Rattle.xc_system.proofs.Places.{in_places}
+use Rattle.xc_lists.proofs.Members.{in_places, is_in_at}
 use Rattle.xc_system.specs.Kept.{Multipliers}
-use Rattle.xc_system.specs.Members.{IsIn}
+use Rattle.xc_lists.specs.Members.{IsIn}
 use Rattle.xc_system.specs.Refutations.{IsContradiction, IsKnown, IsShort, coefficient, constant}
 use Rattle.xc_system.specs.Solutions.{Solves, weighed}
 use Rattle.xc_system.specs.Systems.{Constraints, equation_at, facts_of, range_at}
@@ -26,7 +24,9 @@ use Rattle.xc_system.specs.declared.types.Bound.{Bound}
 use Rattle.xc_system.specs.declared.types.Certificate.{Certificate}
 use Rattle.xc_system.specs.declared.types.Certificate.TheVariants.{Feasible, Infeasible}
 use Rattle.xc_system.specs.declared.types.Equation.{Equation}
-use Rattle.xc_verify.proofs.Amounts.{zero_same, negative_same, ends_worth, equation_worth, coefficient_worth, constant_worth}
+use Rattle.xc_model.proofs.Signs.{negative_same, zero_same}
+use Rattle.xc_verify.proofs.Known.{fact_of_point}
+use Rattle.xc_verify.proofs.Amounts.{ends_worth, equation_worth, coefficient_worth, constant_worth}
 use Rattle.xc_verify.specs.Feasible.{IsMetInside, IsMetAtPoint, assigned, count_objection, equation_terms}
 use Rattle.xc_verify.specs.Infeasible.{FallsShort, Line, binding_objection, coefficient_terms, constant_terms, fact_objection, line_objection}
 use Rattle.xc_verify.specs.Judgements.{IsMet, IsJudgement, IsTooWide, Proves}
@@ -89,7 +89,7 @@ module _ (s : Constraints) (values : List Ratio) (count : length values ≡ s.po
       go (inr (past, none)) = absurd (omega (arith, past, within))
 
   inside : (p i : ℕ) → i < length (facts_of s.bounds p) → IsSomeAnd (range_at s.bounds (slice_index (facts_of s.bounds p) i)) (λ interval. HasNumber (numbers_of interval) (assigned values p))
-  inside p i h = has (slice_index (facts_of s.bounds p) i) p (is_in_at (facts_of s.bounds p) i h) (facts_known s.bounds p i 0 h)
+  inside p i h = has (slice_index (facts_of s.bounds p) i) p (is_in_at (facts_of s.bounds p) i h) (fact_of_point s.bounds p i h)
 
   never_inside : (k p : ℕ) (range : Option (Interval Ratio)) → IsSomeAnd range (λ interval. HasNumber (numbers_of interval) (assigned values p)) → Never (IsMetInside k values p range)
   never_inside k p None some o i m = absurd some

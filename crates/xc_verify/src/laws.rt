@@ -1,6 +1,6 @@
 //! What follows from the definitions for all systems and certificates. The functions do nothing: code calls one where
 //! its proof needs the clauses.
-ghost use Rattle.xc_verify.specs.Laws.{AcceptanceProves, HasOneJudgement, HasOneSum};
+ghost use Rattle.xc_verify.specs.Laws.{AcceptanceProves, ContradictionsAreAccepted, HasOneJudgement, HasOneSum, SolutionsAreAccepted, SumsGoOn};
 
 use xc_frac::laws::lowest_terms;
 use xc_system::laws::contradictions_exclude;
@@ -25,3 +25,14 @@ pub fn one_sum()
 {
     lowest_terms();
 }
+
+/// A sum goes on from its end.
+pub fn sums_go_on()
+    ensures { SumsGoOn }
+{}
+
+/// What solves the system, or contradicts it, is accepted where no operation passes in the sums that are made.
+pub fn proofs_are_accepted()
+    ensures solutions { SolutionsAreAccepted }
+    ensures contradictions { ContradictionsAreAccepted }
+{}

@@ -1,16 +1,12 @@
 -- What one line says.
 use Rattle.std.specs.Prelude.{◌≡◌, ◌≢◌, ◌<◌, ◌^◌, ◌++◌, ◌∷◌, ℕ, pos, List, Option, Some, None, codes, decimal}
-use Rattle.std.specs.List.{AllByRecursion}
 use Rattle.xc_cert.specs.Certificates.{opening, numbered_line}
 use Rattle.xc_cert.specs.declared.line.Line.{Line}
 use Rattle.xc_cert.specs.declared.line.Line.TheVariants.{Opening, Feasible, Infeasible, End, Numbered, Other}
 use Rattle.xc_cert.specs.declared.line.Word.{Word}
 use Rattle.xc_cert.specs.declared.line.Word.TheVariants.{Value, Binding, Low, High}
+use Rattle.xc_lists.specs.Members.{Lacks}
 use Rattle.xc_model.specs.Ratio.{Ratio}
-
--- the byte does not stand in the text
-abbrev pub Lacks : ℕ → List ℕ → Type 0
-Lacks byte text = AllByRecursion (λ b. b ≢ byte) text
 
 -- what stands before the first such byte, and what behind it; or the byte does not stand there
 abbrev pub IsCut : ℕ → List ℕ → Option (List ℕ × List ℕ) → Type 0

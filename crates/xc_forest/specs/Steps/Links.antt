@@ -1,6 +1,7 @@
 -- The order in which vertices are taken away, each with its last neighbour.
 use Rattle.std.specs.Prelude.{◌≡◌, ℕ, ◌-◌, ◌<◌, ◌≤◌, ◌⊎◌, slice_index_or, Bool, true, false, List, [], ◌∷◌, map, length, nat_le, if◌then◌else◌, ℤ, pos, refl}
-use Rattle.xc_forest.specs.Forests.{IsIn, IsOnce, row_at, row_sum, unit_at}
+use Rattle.xc_forest.specs.Forests.{row_at, row_sum, unit_at}
+use Rattle.xc_lists.specs.Members.{IsIn, IsOnce}
 use Rattle.xc_forest.specs.Steps.Edges.{Edge, IsEdgeIn, Joins, at, IsGone}
 use Rattle.xc_forest.specs.Steps.Vertices.{Graph, IsLeafPoint, IsLeafRow, IsAlone}
 use Rattle.xc_forest.specs.declared.links.Link.{Link}

@@ -1,6 +1,7 @@
 -- What was done to a forest while its vertices were taken away one by one, so that it can be undone.
 use Rattle.std.specs.Prelude.{◌≡◌, ◌≢◌, ℕ, ◌+◌, ◌<◌, Bool, true, false, List, [], ◌∷◌, ◌++◌, reverse, drop, length, ℤ, pos, negsuc, if◌then◌else◌, ◌==◌}
-use Rattle.xc_forest.specs.Forests.{IsIn, IsUnit, multiplier_at, ranges_of}
+use Rattle.xc_forest.specs.Forests.{IsUnit, multiplier_at, ranges_of}
+use Rattle.xc_lists.specs.Members.{IsIn}
 use Rattle.xc_forest.specs.Steps.Links.{graph_of, vertices}
 use Rattle.xc_forest.specs.Steps.Scaled.{AreBoundsOver, AreValuesOver, AreSpansOver, scale_of, first_spans}
 use Rattle.xc_forest.specs.Steps.Vertices.{Graph, Span, IsLeafPoint, IsLeafRow, IsAlone, IsMeet, IsWithin, IsNonempty, lessened, turned, no_parts, Settles, Refutes}

@@ -1,7 +1,8 @@
 -- A forest as a graph of vertices, each a point or a row, of which each has a span of values. The value of a row is its signed sum. Ends
 -- and values are whole numbers, for a real and a tiny part, over one denominator.
 use Rattle.std.specs.Prelude.{◌≡◌, ◌≢◌, ℕ, zero, suc, ◌⊎◌, Bool, true, false, List, [], ◌∷◌, ℤ, pos, negsuc, neg_ℤ, ◌+ℤ◌, ◌-ℤ◌, ◌*ℤ◌, ◌<ℤ◌, ◌≤ℤ◌, if◌then◌else◌}
-use Rattle.xc_forest.specs.Forests.{IsIn, Choice, Neither, Plus, Minus, IsUnit}
+use Rattle.xc_forest.specs.Forests.{Choice, Neither, Plus, Minus, IsUnit}
+use Rattle.xc_lists.specs.Members.{IsIn}
 use Rattle.xc_model.specs.Parts.{WholeParts, IsLessWhole}
 
 infix 50 ◌≺◌ ◌≼◌

@@ -13,7 +13,7 @@ use Rattle.xc_joint.specs.declared.types.Part.TheVariants.{Values, Wide}
 use Rattle.xc_model.specs.Ratio.{Ratio}
 use Rattle.xc_system.specs.Forests.{IsNarrowForest}
 use Rattle.xc_system.specs.Kept.{Multipliers}
-use Rattle.xc_system.specs.Members.{IsIn}
+use Rattle.xc_lists.specs.Members.{IsIn}
 use Rattle.xc_system.specs.Refutations.{IsContradictionOf}
 use Rattle.xc_system.specs.Systems.{Constraints, equation_at}
 use Rattle.xc_system.specs.declared.types.Component.{Component}

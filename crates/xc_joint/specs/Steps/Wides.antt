@@ -1,6 +1,6 @@
 -- The least wide fact.
 use Rattle.std.specs.Prelude.{ℕ, ◌<◌, Option, Some, None, IsTrue, slice_index}
-use Rattle.xc_system.specs.Members.{IsIn}
+use Rattle.xc_lists.specs.Members.{IsIn}
 use Rattle.xc_system.specs.Spots.{is_wide_fact}
 use Rattle.xc_system.specs.Systems.{Constraints, facts_of}
 use Rattle.xc_system.specs.declared.types.Component.{Component}

@@ -1,6 +1,6 @@
 use Rattle.std.proofs.Common.{◌≡◌, get_or, ap, ◌∙◌, sym, subst}
 use Rattle.std.specs.Prelude.{All}
-use Rattle.xc_system.specs.Members.{IsIn}
+use Rattle.xc_lists.specs.Members.{IsIn}
 use Rattle.xc_system.specs.Systems.{equation_at}
 use Rattle.xc_joint.proofs.Each.{other_default}
 use Rattle.xc_joint.proofs.one_forest.row_of.Goals as goal

@@ -1,6 +1,6 @@
 use Rattle.xc_joint.specs.Steps.OneForest.{AreEach, IsSignedPlace}
 use Rattle.std.proofs.Common.{sym, subst}
-use Rattle.xc_system.specs.Members.{IsIn}
+use Rattle.xc_lists.specs.Members.{IsIn}
 use Rattle.xc_joint.proofs.Each.{each_end}
 use Rattle.xc_joint.proofs.one_forest.signed_places.Goals as goal
 

@@ -28,7 +28,7 @@ of-requires c = are_kept c.args.system.now c.args.component.now c.args.spans.now
     (subst (λ es. AreEach IsSigned es c.in_ok-bindings.bindings.items) (c.as_slice-4.ensures.value ∙ c.in_ok-equations.ensures ∙ ap (λ is. bindings_of is c.args.by.now) c.as_slice.ensures) c.in_ok-bindings.ensures))
 
 pub returns-clause-contradicts : goal.returns-clause-contradicts
-returns-clause-contradicts c = subst (IsContradictionOf c.args.system.now c.args.component.now) (sym c.of.ensures) (contradiction_of c.args.system.now c.args.component.now c.args.spans.now c.args.by.now c.args.ends.now _ c.requires
+returns-clause-contradicts c = subst (IsContradictionOf c.args.system.now c.args.component.now) (sym c.of.ensures) (contradiction_of c.sums_are_over.ensures c.args.system.now c.args.component.now c.args.spans.now c.args.by.now c.args.ends.now _ c.requires
     (made_of c.args.component.now c.args.spans.now c.args.by.now c.args.ends.now c.in_ok-low_facts.low_facts.items c.in_ok-high_facts.high_facts.items _ _ _ c.in_ok-low_facts.ensures.lists c.in_ok-high_facts.ensures.lists c.in_ok-low_facts.ensures.ascend c.in_ok-high_facts.ensures.ascend
     (subst (λ ks. AreEach IsListed ks c.in_ok-lows.lows.items) c.as_slice-2.ensures.value c.in_ok-lows.ensures)
     (subst (λ ks. AreEach IsListed ks c.in_ok-highs.highs.items) c.as_slice-3.ensures.value c.in_ok-highs.ensures)

@@ -1,6 +1,6 @@
 use Rattle.std.proofs.Common.{◌≡◌, ℕ, slice_get}
 use Rattle.xc_joint.specs.Steps.Settling.{AreFirstAmong}
-use Rattle.xc_system.specs.Members.{IsIn}
+use Rattle.xc_lists.specs.Members.{IsIn}
 use Rattle.xc_joint.proofs.settling.place.Given as goal
 
 abbrev pub invariant-loop-number : goal.invariant-loop-number

@@ -50,4 +50,4 @@ returns-in-Ok-gather c =
     let cs = c.as_slice-component-items.result.now in
     let are : AreComponents c.args.system.now cs = subst (λ (l : List Component). AreComponents c.args.system.now l) (sym c.as_slice-component-items.ensures.value) c.in-Ok.ensures in
     let ready : AreReady c.args.system.now cs (length cs) = λ k d l at. c.loop-component.invariant.ready k d (omega (arith, l, c.loop-component-test.false)) at in
-    (none_other c.args.system.now cs are ready, c.in-Ok-gather.ensures)
+    (none_other c.args.system.now cs are c.links_are_equivalences.ensures ready, c.in-Ok-gather.ensures)

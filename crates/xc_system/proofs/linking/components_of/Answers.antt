@@ -2,7 +2,7 @@ use Rattle.std.proofs.Common.{◌≡◌, ◌<◌, List, Vec, Global, ℕ, length
 use Rattle.std.proofs.lemmas.Result.{IfOk-weaker}
 use Rattle.xc_lists.specs.Places.{before}
 use Rattle.xc_system.proofs.Found.{found}
-use Rattle.xc_system.specs.Members.{places_with}
+use Rattle.xc_lists.specs.Members.{places_with}
 use Rattle.xc_system.specs.Steps.Owned.{owner_of}
 use Rattle.xc_system.specs.Steps.Roots.{IsRoots, rank}
 use Rattle.xc_system.specs.declared.types.Component.{Component}

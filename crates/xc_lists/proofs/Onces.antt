@@ -3,7 +3,8 @@ use Rattle.std.proofs.Common.{◌≡◌, ℕ, zero, suc, ◌<◌, ◌≤◌, Lis
 use Rattle.std.proofs.lemmas.Bool.{eqb-true, ne_eqb}
 use Rattle.std.proofs.lemmas.Map.Steps.{length-le_from_distinct_below}
 use Rattle.std.specs.List.{list_any, IsDistinct, AllByRecursion}
-use Rattle.xc_forest.specs.Forests.{IsIn, IsOnce}
+use Rattle.xc_lists.specs.Members.{IsIn, IsOnce}
+use Rattle.xc_lists.proofs.Members.{place_of}
 
 apart_by_test : (x : ℕ) (xs : List ℕ) → ¬ IsIn x xs → AllByRecursion (λ y. eqb x y ≡ false) xs
 apart_by_test x [] h = tt
@@ -25,17 +26,6 @@ in_by_test q (x ∷ xs) h = go (eqb q x) refl (λ k. in_by_test q xs k)
 -- numbers below n that stand once are n at most
 pub once_length : (xs : List ℕ) (n : ℕ) → IsOnce xs → ((q : ℕ) → IsIn q xs → q < n) → length xs ≤ n
 once_length xs n h k = length-le_from_distinct_below xs n (once_by_test xs h) (λ q i. k q (in_by_test q xs i))
-
--- where a number of a list stands
-pub place_of : (q : ℕ) (xs : List ℕ) → IsIn q xs → (j : ℕ) × (j < length xs) × (get_or xs j 0 ≡ q)
-place_of q [] i = absurd i
-place_of q (x ∷ xs) (inl e) = (0, omega arith, sym e)
-place_of q (x ∷ xs) (inr i) = let r = place_of q xs i in (suc r.0, omega (arith, r.1), r.2)
-
-pub at_place : (xs : List ℕ) (j : ℕ) → j < length xs → IsIn (get_or xs j 0) xs
-at_place [] j l = absurd (omega arith)
-at_place (x ∷ xs) zero l = inl refl
-at_place (x ∷ xs) (suc j) l = inr (at_place xs j (omega arith))
 
 -- where no two places have one number, none stands twice
 pub once_from_places : (xs : List ℕ) → ((i j : ℕ) → i < length xs → j < length xs → get_or xs i 0 ≡ get_or xs j 0 → i ≡ j) → IsOnce xs

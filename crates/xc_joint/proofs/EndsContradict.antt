@@ -1,7 +1,6 @@
 -- The two tightest ends of an empty point contradict its component.
 use Rattle.std.proofs.Common.{◌≡◌, ◌<◌, ◌||◌, ◌++◌, ◌⊎◌, ℕ, Bool, true, false, List, [], ◌∷◌, map, Option, Some, None, Ok, Err, inl, inr, pos, refl, sym, ap, subst, ◌∙◌, arith}
 use Rattle.std.proofs.lemmas.Int.{ints}
-use Rattle.std.proofs.lemmas.List.{length-map}
 use Rattle.std.proofs.lemmas.List.Elements.{All-from_recursion}
 use Rattle.std.specs.Option.{option_map_or}
 use Rattle.std.specs.Prelude.{IsTrue}
@@ -12,7 +11,7 @@ use Rattle.xc_interval.specs.declared.ends.End.TheVariants.{Closed, Open}
 use Rattle.xc_interval.specs.declared.interval.Interval.{Interval}
 use Rattle.xc_joint.proofs.Crossing.{first_tightest_once, in_middle, known_at}
 use Rattle.xc_joint.proofs.EmptyPoints.{ends_kept}
-use Rattle.xc_joint.proofs.WideFacts.{owner}
+use Rattle.xc_joint.proofs.Placed.{placed_in}
 use Rattle.xc_joint.specs.Causes.{IsCause, IsFirstEmpty, IsOfFirstEmpty}
 use Rattle.xc_joint.specs.declared.types.Cause.{Cause}
 use Rattle.xc_joint.specs.declared.types.Cause.TheVariants.{Fact, Ends}
@@ -22,7 +21,6 @@ use Rattle.xc_model.proofs.Numbers.{same-neg, same-product, same-refl, same-sum,
 use Rattle.xc_model.specs.Fraction.{Fraction, IsBelow, SameNumber, difference_of, product_of, sum_of, whole}
 use Rattle.xc_model.specs.Laws.{HasOneLowest}
 use Rattle.xc_model.specs.Ratio.{Ratio, fraction_of}
-use Rattle.xc_lists.proofs.Members.{in_places}
 use Rattle.xc_system.specs.Kept.{Multipliers}
 use Rattle.xc_lists.specs.Members.{IsIn}
 use Rattle.xc_system.specs.Refutations.{IsContradictionOf, IsKnownIn, IsShort, coefficient, constant, high_at, is_high_open, is_low_open, low_at, unit_at}
@@ -119,12 +117,6 @@ module _ (s : Constraints) (k m : ℕ) (one : Ratio) (n : one.num ≡ pos 1) (d 
       none = subst (λ (p : ℕ). SameNumber (sum_of (whole (pos 0)) (difference_of (sum_of (product_of (fraction_of one) (unit_at j (point_at s.bounds k))) (whole (pos 0))) (sum_of (product_of (fraction_of one) (unit_at j p)) (whole (pos 0))))) (whole (pos 0))) e
           (same-trans _ _ _ (sum-comm (whole (pos 0)) (difference_of (sum_of (product_of (fraction_of one) (unit_at j (point_at s.bounds k))) (whole (pos 0))) (sum_of (product_of (fraction_of one) (unit_at j (point_at s.bounds k))) (whole (pos 0)))))
           (same-trans _ _ _ (sum-zero _) (sum-neg (sum_of (product_of (fraction_of one) (unit_at j (point_at s.bounds k))) (whole (pos 0))))))
-
--- a fact of a point
-pub placed_in : (s : Constraints) (p k : ℕ) → IsIn k (facts_of s.bounds p) → point_at s.bounds k ≡ p
-placed_in s p k h =
-    let at = in_places (map (λ b. b.point) s.bounds) p k h in
-    sym (owner s.bounds k (omega (arith, at.0, length-map s.bounds (λ (b : Bound). b.point)))) ∙ at.1
 
 module _ (s : Constraints) (c : Component) where
   -- the first empty point is one

@@ -1,7 +1,7 @@
 -- The checker's sums at the points of a refutation by the two ends of an empty point.
 use Rattle.std.proofs.Common.{◌≡◌, ◌++◌, ◌==◌, ℕ, Bool, true, false, cond, List, [], ◌∷◌, map, Ok, pos, refl, sym, ap, subst, ◌∙◌, arith}
 use Rattle.xc_joint.proofs.Crossing.{in_middle}
-use Rattle.xc_joint.proofs.EndsContradict.{placed_in}
+use Rattle.xc_joint.proofs.Placed.{placed_in}
 use Rattle.xc_joint.specs.Causes.{IsFirstEmpty, IsOfFirstEmpty}
 use Rattle.xc_joint.specs.Steps.UnitSums.{HasSums}
 use Rattle.xc_model.proofs.NumbersOver.{sum_of_fits, difference_of_fits}

@@ -9,7 +9,8 @@ use Rattle.xc_lists.specs.Members.{IsIn}
 use Rattle.xc_system.specs.Systems.{Constraints, facts_of, point_at}
 use Rattle.xc_system.specs.declared.types.Bound.{Bound}
 
-owner : (bounds : List Bound) (k : ℕ) → k < length bounds → get_or (map (λ b. b.point) bounds) k 0 ≡ point_at bounds k
+-- the point that the list of points gives a fact
+pub owner : (bounds : List Bound) (k : ℕ) → k < length bounds → get_or (map (λ b. b.point) bounds) k 0 ≡ point_at bounds k
 owner bounds k l = go (slice_get_cases bounds k).1
   where
     go : ((b : Bound) × (k < length bounds) × (slice_get bounds k ≡ Some b) × (get_or bounds k b ≡ b)) ⊎ ((length bounds ≤ k) × (slice_get bounds k ≡ None)) → get_or (map (λ b. b.point) bounds) k 0 ≡ point_at bounds k

@@ -4,6 +4,7 @@ use Rattle.std.proofs.lemmas.List.{get_or-map, length-map}
 use Rattle.std.proofs.lemmas.Option.{slice_get_cases}
 use Rattle.std.specs.Option.{option_map_or}
 use Rattle.std.specs.Prelude.{IsTrue, slice_get}
+use Rattle.xc_joint.proofs.Placed.{owner}
 use Rattle.xc_joint.proofs.EmptyPoints.{before_first, none_in}
 use Rattle.xc_joint.specs.Causes.{IsWideOf}
 use Rattle.xc_joint.specs.Steps.Wides.{IsLeastIn, IsWideAt, IsWideBefore}
@@ -59,14 +60,6 @@ wide_more s c n p a b o is e h g = subst (λ (m : Option ℕ). IsLeastIn (IsWide
     split : (k : ℕ) → (r : IsWideBefore s c (n + 1) k) → (r.0 < n) ⊎ (n ≤ r.0) → IsWideBefore s c n k ⊎ IsWideAt s p k
     split k r (inl l) = inl (r.0, l, r.2)
     split k r (inr l) = let m = r.1 in let same : r.0 ≡ n = omega arith in inr (subst (λ (q : ℕ). IsWideAt s q k) (ap (λ (i : ℕ). slice_index c.points i) same ∙ sym is) r.2)
-
--- the point of a fact
-pub owner : (bounds : List Bound) (k : ℕ) → k < length bounds → get_or (map (λ b. b.point) bounds) k 0 ≡ point_at bounds k
-owner bounds k l = go (slice_get_cases bounds k).1
-  where
-    go : ((b : Bound) × (k < length bounds) × (slice_get bounds k ≡ Some b) × (get_or bounds k b ≡ b)) ⊎ ((length bounds ≤ k) × (slice_get bounds k ≡ None)) → get_or (map (λ b. b.point) bounds) k 0 ≡ point_at bounds k
-    go (inl (b, m, there, at)) = get_or-map (λ (x : Bound). x.point) bounds k b 0 l ∙ ap (λ (x : Bound). x.point) at ∙ ap (λ (o : Option Bound). option_map_or (λ x. x.point) o 0) (sym there)
-    go (inr (past, none)) = absurd (omega (arith, past, l))
 
 -- that of all points of the component
 pub wide_of_all : (s : Constraints) (c : Component) (n : ℕ) (o : Option ℕ) → length c.points ≤ n → n ≤ length c.points → IsLeastIn (IsWideBefore s c n) o → IsLeastIn (IsWideOf s c) o

@@ -7,6 +7,7 @@ mod escapes;
 mod items;
 mod linkbases;
 mod nodes;
+mod pivots;
 mod reports;
 mod runs;
 mod schemas;
@@ -38,6 +39,7 @@ fn show(alloc: Global, subject: &str, parts: &[Part]) -> Result<String, AllocErr
         "linkbases" => linkbases::show(alloc, parts),
         "reports" => reports::show(alloc, parts),
         "runs" => runs::show(alloc, parts),
+        "pivots" => pivots::show(alloc, parts),
         "walks" => walks::show(alloc, parts),
         _ => Ok(String::new(alloc)),
     }

@@ -61,14 +61,16 @@ fn show_numbers(alloc: Global, out: &mut String, numbers: &[u32]) -> Result<(), 
     Ok(())
 }
 
-fn show_wide(alloc: Global, out: &mut String, wide: Wide) -> Result<(), AllocError> {
+/// An operation, with its operands.
+pub fn show_wide(alloc: Global, out: &mut String, wide: Wide) -> Result<(), AllocError> {
     out.push_str(sign_of(wide.op))?;
     show_frac(alloc, out, wide.left)?;
     show_frac(alloc, out, wide.right)?;
     out.push('\n')
 }
 
-fn show_frac(alloc: Global, out: &mut String, frac: Frac) -> Result<(), AllocError> {
+/// A fraction behind a space.
+pub fn show_frac(alloc: Global, out: &mut String, frac: Frac) -> Result<(), AllocError> {
     out.push_str(format!(in alloc; " {}/{}", frac.num(), frac.den())?.as_str())
 }
 
@@ -136,8 +138,8 @@ fn row_of(alloc: Global, line: &str) -> Result<Items<(u32, Frac)>, AllocError> {
     Ok(Items::of(row))
 }
 
-// A number, as `1` or `-1/2`; 0 where the word has none.
-fn number_of(word: &str) -> Frac {
+/// A number, as `1` or `-1/2`; 0 where the word has none.
+pub fn number_of(word: &str) -> Frac {
     let mut words = word.split('/');
     let num = words.next().unwrap_or("").parse::<i64>().unwrap_or(0);
     let den = words.next().unwrap_or("1").parse::<i64>().unwrap_or(1);

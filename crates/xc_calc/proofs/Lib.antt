@@ -1,5 +1,7 @@
 pub mod Drawing
 pub mod Filtered
 pub mod Integers
+pub mod Labelling
 pub mod OneAnswer
+pub mod Rivals
 pub mod Roles

@@ -1,13 +1,25 @@
 // Arcs that are equivalent, and arcs that are effective.
-ghost use Rattle.std.specs.Prelude.{◌≡◌, ◌<◌, length, map, take, IfOk};
+ghost use Rattle.std.specs.Prelude.{◌≡◌, ◌++◌, ◌∷◌, [], ℕ, List, map, take, IfOk, OnOk};
 ghost use Rattle.std.specs.List.{list_any, list_all};
 ghost use Rattle.xc_calc.specs.Effective.{is_same_number, is_same_attribute, are_among, are_same, is_equivalent, is_prohibited, is_higher, is_rival, is_barred_by, is_effective, effective_arcs};
+ghost use Rattle.xc_calc.specs.Steps.{AreByEnds, ends_of, is_effective_among};
+ghost use Rattle.xc_calc.specs.declared.arc.ListedArc.{ListedArc};
 
 use crate::arc::{ListedArc, Use};
+use crate::groups::{list_of, put_last};
 use std::alloc::Global;
+use std::collections::BTreeMap;
 use xc_decimal::Decimal;
 use xc_elements::Attribute;
 use xc_lists::Memory;
+use xc_names::NameId;
+
+/// The concepts at both ends of an arc, which equivalent arcs have in common.
+#[derive(Clone, Copy, PartialEq, Eq, PartialOrd, Ord)]
+pub(crate) struct Ends {
+    pub from: NameId,
+    pub to: NameId,
+}
 
 fn is_same_number(a: Decimal, b: Decimal) -> bool
     ensures { result ≡ is_same_number a b }
@@ -80,41 +92,81 @@ fn is_barred_by(a: &ListedArc, b: &ListedArc) -> bool
     is_rival(a, b) && is_prohibited(b.usage)
 }
 
-fn some_higher(arcs: &[ListedArc], a: &ListedArc) -> bool
-    ensures { result ≡ list_any (is_higher a.now) arcs.now }
+fn some_higher(arcs: &[&ListedArc], a: &ListedArc) -> bool
+    ensures { result ≡ list_any (λ b. is_higher a.now b.now) arcs.now }
 {
     arcs.iter().any(|b| is_higher(a, b))
 }
 
-fn some_bar(arcs: &[ListedArc], a: &ListedArc) -> bool
-    ensures { result ≡ list_any (is_barred_by a.now) arcs.now }
+fn some_bar(arcs: &[&ListedArc], a: &ListedArc) -> bool
+    ensures { result ≡ list_any (λ b. is_barred_by a.now b.now) arcs.now }
 {
     arcs.iter().any(|b| is_barred_by(a, b))
 }
 
-fn some_rival(arcs: &[ListedArc], a: &ListedArc) -> bool
-    ensures { result ≡ list_any (is_rival a.now) arcs.now }
+fn some_rival(arcs: &[&ListedArc], a: &ListedArc) -> bool
+    ensures { result ≡ list_any (λ b. is_rival a.now b.now) arcs.now }
 {
     arcs.iter().any(|b| is_rival(a, b))
 }
 
-// Whether an arc before this place of a list is equivalent and has the same priority.
-fn some_earlier(arcs: &[ListedArc], at: usize, a: &ListedArc) -> bool
-    requires { at < length arcs.now }
-    ensures { result ≡ list_any (is_rival a.now) (take at arcs.now) }
+// The concepts at the ends of an arc.
+fn ends_of(a: &ListedArc) -> Ends
+    ensures { result ≡ ends_of a.now }
 {
-    some_rival(&arcs[..at], a)
+    Ends {
+        from: a.arc.from,
+        to: a.arc.to,
+    }
 }
 
-// Whether the arc at this place of a list is effective. Every two arcs are compared.
-fn is_effective(arcs: &[ListedArc], at: usize, a: &ListedArc) -> bool
-    requires { at < length arcs.now }
-    ensures { result ≡ is_effective arcs.now at a.now }
+// Puts an arc behind those that have its ends.
+fn put_arc<'a>(
+    alloc: Global,
+    lists: &mut BTreeMap<Ends, Vec<&'a ListedArc>>,
+    a: &'a ListedArc,
+) -> Result<(), Memory>
+    ensures { OnOk result ((arcs : List ListedArc) → AreByEnds lists.old arcs → AreByEnds lists.new (arcs ++ a.now ∷ [])) }
+{
+    put_last(alloc, lists, ends_of(a), a)
+}
+
+// The arcs of a list by their ends.
+fn by_ends<'a>(
+    alloc: Global,
+    arcs: &'a [ListedArc],
+) -> Result<BTreeMap<Ends, Vec<&'a ListedArc>>, Memory>
+    ensures { IfOk result (λ lists. AreByEnds lists arcs.now) }
+{
+    let mut lists = BTreeMap::new(alloc);
+    for a in arcs {
+        put_arc(alloc, &mut lists, a)?;
+    }
+    Ok(lists)
+}
+
+// Whether an arc is effective among these, where those stand before it. The first of those that has its
+// priority settles it, so that many equal arcs are not compared with one another.
+fn is_effective_among(rivals: &[&ListedArc], earlier: &[&ListedArc], a: &ListedArc) -> bool
+    ensures { result ≡ is_effective_among rivals.now earlier.now a.now }
 {
     !is_prohibited(a.usage)
-        && !some_higher(arcs, a)
-        && !some_bar(arcs, a)
-        && !some_earlier(arcs, at, a)
+        && !some_rival(earlier, a)
+        && !some_higher(rivals, a)
+        && !some_bar(rivals, a)
+}
+
+// Whether an arc is effective among all arcs, of which some stand before it. It is compared with those of
+// its ends alone, since no others are equivalent.
+fn is_effective(
+    all: &BTreeMap<Ends, Vec<&ListedArc>>,
+    earlier: &BTreeMap<Ends, Vec<&ListedArc>>,
+    a: &ListedArc,
+) -> bool
+    ensures { (arcs : List ListedArc) (at : ℕ) → AreByEnds all.now arcs → AreByEnds earlier.now (take at arcs) → result ≡ is_effective arcs at a.now }
+{
+    let ends = ends_of(a);
+    is_effective_among(list_of(all, &ends), list_of(earlier, &ends), a)
 }
 
 /// The effective arcs of a list, in its order.
@@ -124,9 +176,13 @@ pub(crate) fn effective_arcs<'a>(
 ) -> Result<Vec<&'a ListedArc>, Memory>
     ensures { IfOk result (λ effective. map (λ a. a.now) effective.items ≡ effective_arcs arcs.now) }
 {
+    let all = by_ends(alloc, arcs)?;
+    let mut earlier = BTreeMap::new(alloc);
     let mut effective = Vec::new(alloc);
     for (at, a) in arcs.iter().enumerate() {
-        if is_effective(arcs, at, a) {
+        let kept = is_effective(&all, &earlier, a);
+        put_arc(alloc, &mut earlier, a)?;
+        if kept {
             effective.push(a)?;
         }
     }

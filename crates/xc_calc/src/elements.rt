@@ -1,6 +1,7 @@
 // The elements of a linkbase document.
 ghost use Rattle.std.specs.Prelude.{◌≡◌, ◌<◌, length, option_map};
-ghost use Rattle.xc_calc.specs.Linkbases.{is_linkbase, is_link_node, is_link_element, is_child, xlink_at, plain_at, is_link, role_at, chosen_arcrole, is_text, is_in_link, is_arc, is_chosen, is_locator};
+ghost use Rattle.xc_calc.specs.Linkbases.{is_linkbase, is_link_node, is_link_element, is_child, xlink_at, plain_at, is_link, role_at, chosen_arcrole, is_text, is_in_link, is_arc, is_chosen};
+ghost use Rattle.xc_calc.specs.Labels.{is_linked_locator};
 
 use crate::arc::ArcKind;
 use xc_elements::{Node, Tree};
@@ -123,13 +124,10 @@ pub(crate) fn is_chosen(kind: ArcKind, tree: &Tree, at: u32) -> bool
     is_arc(tree, at) && is_text(chosen_arcrole(kind), xlink_at(tree, at, "arcrole"))
 }
 
-/// Whether the node is a locator of this extended link with this label.
-pub(crate) fn is_locator(tree: &Tree, link: u32, label: &str, at: u32) -> bool
+/// Whether the node is a locator that has an href.
+pub(crate) fn is_linked_locator(tree: &Tree, at: u32) -> bool
     requires { at < length tree.now }
-    ensures { result ≡ is_locator tree.now link label.now at }
+    ensures { result ≡ is_linked_locator tree.now at }
 {
-    is_link_element(tree, "loc", at)
-        && is_child(tree, link, at)
-        && is_text(label, xlink_at(tree, at, "label"))
-        && xlink_at(tree, at, "href").is_some()
+    is_link_element(tree, "loc", at) && xlink_at(tree, at, "href").is_some()
 }

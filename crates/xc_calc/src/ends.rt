@@ -1,13 +1,13 @@
 // The locators at the ends of an arc element, and the concepts that they name.
-ghost use Rattle.std.specs.Prelude.{◌≡◌, ◌<◌, length, IfOk};
-ghost use Rattle.xc_calc.specs.Ends.{resolved, located, locators, end_at};
+ghost use Rattle.std.specs.Prelude.{◌≡◌, ◌<◌, length};
+ghost use Rattle.xc_calc.specs.Ends.{resolved, located, end_at};
+ghost use Rattle.xc_calc.specs.Labels.{AreLocators};
 
-use crate::elements::{is_locator, xlink_at};
-use std::alloc::Global;
+use crate::elements::xlink_at;
+use crate::locators::Locators;
 use xc_chars::{around, file_name};
 use xc_concepts::Concepts;
 use xc_elements::Tree;
-use xc_lists::Memory;
 use xc_names::NameId;
 
 // The concept that an href names.
@@ -31,29 +31,22 @@ pub(crate) fn located(tree: &Tree, concepts: &Concepts, at: u32) -> Option<NameI
     }
 }
 
-// The locators of an extended link with this label, in the order of the document.
-fn locators(alloc: Global, tree: &Tree, link: u32, label: &str) -> Result<Vec<u32>, Memory>
-    ensures { IfOk result (λ found. found.items ≡ locators tree.now link label.now) }
-{
-    let mut found = Vec::new(alloc);
-    for at in 0..tree.count() {
-        if is_locator(tree, link, label, at) {
-            found.push(at)?;
-        }
-    }
-    Ok(found)
-}
-
 /// The locators that one end of an arc element names, by the attribute of XLink with this local part.
-pub(crate) fn end_at(alloc: Global, tree: &Tree, at: u32, local: &str) -> Result<Vec<u32>, Memory>
-    requires { at < length tree.now }
-    ensures { IfOk result (λ found. found.items ≡ end_at tree.now at local.now) }
+pub(crate) fn end_at<'a, 'b>(
+    found: &'b Locators<'a>,
+    tree: &'a Tree,
+    at: u32,
+    local: &str,
+) -> &'b [u32]
+    requires found { AreLocators found.now tree.now }
+    requires within { at < length tree.now }
+    ensures { result.now ≡ end_at tree.now at local.now }
 {
     let Some(link) = tree.parent_of(at) else {
-        return Ok(Vec::new(alloc));
+        return &[];
     };
     match xlink_at(tree, at, local) {
-        Some(label) => locators(alloc, tree, link, label),
-        None => Ok(Vec::new(alloc)),
+        Some(label) => found.labelled(link, label),
+        None => &[],
     }
 }

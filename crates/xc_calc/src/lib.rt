@@ -10,8 +10,10 @@ mod effective;
 mod elements;
 mod ends;
 mod fault;
+mod groups;
 pub mod laws;
 mod linked;
+mod locators;
 mod networks;
 mod wanted;
 

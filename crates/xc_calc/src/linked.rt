@@ -1,6 +1,7 @@
 // The arcs of a linkbase document, in reading order, and the first rule that it breaks.
 ghost use Rattle.std.specs.Prelude.{◌≡◌, ◌<◌, ◌++◌, ◌⊎◌, Some, None, length, map, All, IfOk, IfErr, OnOk};
 ghost use Rattle.xc_calc.specs.Ends.{located, sources, targets};
+ghost use Rattle.xc_calc.specs.Labels.{AreLocators};
 ghost use Rattle.xc_calc.specs.Linked.{arc_between, arcs_between, concepts_at, arcs_of_element, arcs_at, arcs_in};
 ghost use Rattle.xc_calc.specs.Rules.{kind_fault, locator_fault, ends_fault, arc_fault, broken_at, first_broken};
 ghost use Rattle.xc_calc.specs.Steps.{drawn_view};
@@ -12,6 +13,7 @@ use crate::drawn::{Drawn, drawn_at};
 use crate::elements::is_chosen;
 use crate::ends::{end_at, located};
 use crate::fault::LinkFault;
+use crate::locators::Locators;
 use std::alloc::Global;
 use xc_concepts::{Concepts, Kind};
 use xc_elements::Tree;
@@ -115,15 +117,20 @@ fn add_between(
 }
 
 // The locators at both ends of an arc element, of which there is one at least at each.
-fn ends_at(alloc: Global, tree: &Tree, at: u32) -> Result<(Vec<u32>, Vec<u32>), LinkFault>
-    requires { at < length tree.now }
-    ensures sources { IfOk result (λ ends. ends.0.items ≡ sources tree.now at) }
-    ensures targets { IfOk result (λ ends. ends.1.items ≡ targets tree.now at) }
+fn ends_at<'a, 'b>(
+    found: &'b Locators<'a>,
+    tree: &'a Tree,
+    at: u32,
+) -> Result<(&'b [u32], &'b [u32]), LinkFault>
+    requires found { AreLocators found.now tree.now }
+    requires within { at < length tree.now }
+    ensures sources { IfOk result (λ ends. ends.0.now ≡ sources tree.now at) }
+    ensures targets { IfOk result (λ ends. ends.1.now ≡ targets tree.now at) }
     ensures sound { OnOk result (ends_fault tree.now at ≡ None) }
-    ensures fault { IfErr result (λ e. (e ≡ LinkFault.Memory) ⊎ (ends_fault tree.now at ≡ Some e)) }
+    ensures fault { IfErr result (λ e. ends_fault tree.now at ≡ Some e) }
 {
-    let sources = end_at(alloc, tree, at, "from")?;
-    let targets = end_at(alloc, tree, at, "to")?;
+    let sources = end_at(found, tree, at, "from");
+    let targets = end_at(found, tree, at, "to");
     if sources.is_empty() || targets.is_empty() {
         return Err(LinkFault::NoLocator(at));
     }
@@ -131,42 +138,46 @@ fn ends_at(alloc: Global, tree: &Tree, at: u32) -> Result<(Vec<u32>, Vec<u32>), 
 }
 
 // Puts the arcs of a chosen arc element at the end of a list.
-fn add_element(
+fn add_element<'a>(
     alloc: Global,
     arcs: &mut Vec<ListedArc>,
-    tree: &Tree,
+    found: &Locators<'a>,
+    tree: &'a Tree,
     concepts: &Concepts,
     at: u32,
 ) -> Result<(), LinkFault>
-    requires { at < length tree.now }
+    requires found { AreLocators found.now tree.now }
+    requires within { at < length tree.now }
     ensures added { OnOk result (arcs.new.items ≡ arcs.old.items ++ arcs_of_element concepts.now tree.now at) }
     ensures sound { OnOk result (arc_fault concepts.now tree.now at ≡ None) }
     ensures fault { IfErr result (λ e. (e ≡ LinkFault.Memory) ⊎ (arc_fault concepts.now tree.now at ≡ Some e)) }
 {
     let drawn = drawn_at(alloc, tree, at)?;
-    let (sources, targets) = ends_at(alloc, tree, at)?;
-    let from = concepts_at(alloc, tree, concepts, sources.as_slice())?;
-    let to = concepts_at(alloc, tree, concepts, targets.as_slice())?;
+    let (sources, targets) = ends_at(found, tree, at)?;
+    let from = concepts_at(alloc, tree, concepts, sources)?;
+    let to = concepts_at(alloc, tree, concepts, targets)?;
     add_between(alloc, arcs, &drawn, from.as_slice(), to.as_slice())?;
     Ok(())
 }
 
 // Puts the arcs of a node at the end of a list.
-fn add_node(
+fn add_node<'a>(
     alloc: Global,
     arcs: &mut Vec<ListedArc>,
     kind: ArcKind,
-    tree: &Tree,
+    found: &Locators<'a>,
+    tree: &'a Tree,
     concepts: &Concepts,
     at: u32,
 ) -> Result<(), LinkFault>
-    requires { at < length tree.now }
+    requires found { AreLocators found.now tree.now }
+    requires within { at < length tree.now }
     ensures added { OnOk result (arcs.new.items ≡ arcs.old.items ++ arcs_at kind concepts.now tree.now at) }
     ensures sound { OnOk result (broken_at kind concepts.now tree.now at ≡ None) }
     ensures fault { IfErr result (λ e. (e ≡ LinkFault.Memory) ⊎ (broken_at kind concepts.now tree.now at ≡ Some e)) }
 {
     if is_chosen(kind, tree, at) {
-        add_element(alloc, arcs, tree, concepts, at)?;
+        add_element(alloc, arcs, found, tree, concepts, at)?;
     }
     Ok(())
 }
@@ -182,9 +193,10 @@ pub(crate) fn arcs_in(
     ensures sound { OnOk result (first_broken kind concepts.now tree.now ≡ None) }
     ensures fault { IfErr result (λ e. (e ≡ LinkFault.Memory) ⊎ (first_broken kind concepts.now tree.now ≡ Some e)) }
 {
+    let found = Locators::of(alloc, tree)?;
     let mut arcs = Vec::new(alloc);
     for at in 0..tree.count() {
-        add_node(alloc, &mut arcs, kind, tree, concepts, at)?;
+        add_node(alloc, &mut arcs, kind, &found, tree, concepts, at)?;
     }
     Ok(arcs)
 }

@@ -1,8 +1,12 @@
-use Rattle.std.proofs.Common.{◌≡◌, map, filter_map}
+use Rattle.std.proofs.Common.{◌≡◌, map, take, filter_map}
 use Rattle.xc_calc.specs.Effective.{effective_at}
+use Rattle.xc_calc.specs.Steps.{AreByEnds}
 use Rattle.xc_lists.specs.Places.{before}
 use Rattle.xc_calc.proofs.effective.effective_arcs.Given as goal
 
--- the effective ones of the arcs so far
+-- the effective ones of the arcs so far, and these by their ends
 abbrev pub invariant-loop-at : goal.invariant-loop-at
-invariant-loop-at l = map (λ a. a.now) l.effective.items ≡ filter_map (effective_at l.arcs) (before l.at)
+invariant-loop-at l = record {
+  effective : map (λ a. a.now) l.effective.items ≡ filter_map (effective_at l.arcs) (before l.at);
+  earlier : AreByEnds l.earlier (take l.at l.arcs);
+}

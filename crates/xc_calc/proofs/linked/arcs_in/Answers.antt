@@ -8,7 +8,7 @@ use Rattle.xc_calc.proofs.linked.arcs_in.Goals as goal
 
 pub returns-in_err-add_node-clause-fault : goal.returns-in_err-add_node-clause-fault
 returns-in_err-add_node-clause-fault c =
-    let p = err_from_is_err_and c.from_residual.result c.from_residual.ensures.1 in
+    let p = err_from_is_err_and c.from_residual-in_err-add_node.result c.from_residual-in_err-add_node.ensures.1 in
     let nodes = c.args.tree.now in
     let broken = broken_at c.args.kind c.args.concepts.now nodes in
     rw (p.1, p.2) (elim c.in_err-add_node.ensures.fault [

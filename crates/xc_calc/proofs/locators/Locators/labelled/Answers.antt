@@ -1,0 +1,5 @@
+use Rattle.std.proofs.Common.{◌∙◌}
+use Rattle.xc_calc.proofs.locators.Locators.labelled.Goals as goal
+
+pub returns : goal.returns
+returns c = λ nodes found. c.list_of.ensures ∙ found (record { link = c.args.link; label = c.args.label })

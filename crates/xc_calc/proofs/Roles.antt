@@ -1,17 +1,21 @@
 -- Roles that are noted in an ordered set, and the networks of them.
-use Rattle.std.proofs.Common.{◌≡◌, ◌<◌, ◌+◌, ◌||◌, ℕ, List, [], ◌∷◌, Bool, drop, get_or, length, map, Result, Ok, Err, IfOk, sym, ap, subst, ◌∙◌}
+use Rattle.std.proofs.Common.{◌≡◌, ◌<◌, ◌+◌, ◌++◌, ◌||◌, ℕ, List, [], ◌∷◌, Bool, true, false, drop, filter, if◌then◌else◌, refl, get_or, length, map, Result, Ok, Err, IfOk, sym, ap, subst, ◌∙◌}
+use Rattle.std.proofs.lemmas.List.{map-append}
+use Rattle.std.proofs.lemmas.List.Elements.{filter-append}
+use Rattle.std.proofs.lemmas.Map.Text.{is_eq-slice_cmp}
 use Rattle.std.specs.BTreeSet.{insert_key}
 use Rattle.std.specs.Borrow.{Bor}
 use Rattle.std.specs.Cmp.Lexicographic.{slice_cmp}
 use Rattle.std.specs.FinMap.{nat_cmp-IsAntisymmetric, slice_cmp-IsAntisymmetric}
 use Rattle.std.specs.List.{AllByRecursion, list_any}
 use Rattle.std.specs.List.Sorted.{IsStrictlySortedBy}
-use Rattle.std.specs.Ordering.{nat_cmp}
+use Rattle.std.specs.Ordering.{nat_cmp, is_eq}
 use Rattle.std.specs.Str.{bytes_eq}
 use Rattle.std.specs.declared.cmp.Ordering.TheVariants.{Less}
 use Rattle.xc_calc.specs.Effective.{effective_arcs}
 use Rattle.xc_calc.specs.Networks.{has_role, some_role, arcs_of, AreNetworks}
 use Rattle.xc_calc.specs.Steps.{by_bytes}
+use Rattle.xc_calc.specs.declared.arc.Arc.{Arc}
 use Rattle.xc_calc.specs.declared.arc.ListedArc.{ListedArc}
 use Rattle.xc_calc.specs.declared.arc.Network.{Network}
 use Rattle.xc_lists.proofs.Anys.{any_map, any_put_in, any_step}
@@ -31,6 +35,23 @@ role_step arcs i d h is role =
     sym (any_map (has_role role) (λ a. a.now) (drop i arcs))
     ∙ any_step (λ a. has_role role a.now) arcs i d h is
     ∙ ap (λ b. bytes_eq role d.now.role || b) (any_map (has_role role) (λ a. a.now) (drop (i + 1) arcs))
+
+-- an arc that is put last has its role's list one longer, and no other
+pub put_in_role : (arcs : List ListedArc) (a : ListedArc) (role key : Bor (List ℕ)) (old new : List Arc) → key.now ≡ a.role
+    → old ≡ arcs_of arcs role.now
+    → new ≡ old ++ (if is_eq (by_bytes role key) then a.arc ∷ [] else [])
+    → new ≡ arcs_of (arcs ++ a ∷ []) role.now
+put_in_role arcs a role key old new same so_far put =
+    put
+    ∙ ap (λ xs. xs ++ (if is_eq (by_bytes role key) then a.arc ∷ [] else [])) so_far
+    ∙ ap (λ b. arcs_of arcs role.now ++ (if b then a.arc ∷ [] else [])) (is_eq-slice_cmp role.now key.now ∙ ap (bytes_eq role.now) same)
+    ∙ ap (λ xs. arcs_of arcs role.now ++ xs) (chosen (bytes_eq role.now a.role))
+    ∙ sym (map-append (λ a. a.arc) (filter (has_role role.now) arcs) (filter (has_role role.now) (a ∷ [])))
+    ∙ ap (map (λ a. a.arc)) (sym (filter-append (has_role role.now) arcs (a ∷ [])))
+  where
+    chosen : (b : Bool) → (if b then a.arc ∷ [] else []) ≡ map (λ a. a.arc) (if b then a ∷ [] else [])
+    chosen true = refl
+    chosen false = refl
 
 -- ---- in order
 

@@ -9,6 +9,8 @@ use Rattle.std.specs.Ordering.{nat_cmp, is_eq, ordering_then}
 use Rattle.std.specs.declared.cmp.Ordering.{Ordering}
 use Rattle.xc_calc.specs.Effective.{is_prohibited, is_rival, is_higher, is_barred_by}
 use Rattle.xc_calc.specs.Linked.{Drawn}
+use Rattle.xc_calc.specs.Networks.{arcs_of}
+use Rattle.xc_calc.specs.declared.arc.Arc.{Arc}
 use Rattle.xc_calc.specs.declared.arc.ListedArc.{ListedArc}
 use Rattle.xc_calc.specs.declared.drawn.Drawn as kept
 use Rattle.xc_calc.specs.declared.effective.Ends.{Ends}
@@ -48,3 +50,7 @@ is_effective_among rivals earlier a =
     && not (list_any (λ b. is_rival a b.now) earlier)
     && not (list_any (λ b. is_higher a b.now) rivals)
     && not (list_any (λ b. is_barred_by a b.now) rivals)
+
+-- each list has the arcs of its role, in their order
+abbrev pub AreByRole : {Y : Type 0} → BTreeMap (Bor (List ℕ)) (Vec Arc Y) → List ListedArc → Type 0
+AreByRole lists arcs = (role : Bor (List ℕ)) → list_of by_bytes lists role ≡ arcs_of arcs role.now

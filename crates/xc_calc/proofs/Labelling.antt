@@ -9,7 +9,7 @@ use Rattle.std.specs.Ordering.{nat_cmp, is_eq}
 use Rattle.std.specs.Str.{bytes_eq}
 use Rattle.xc_calc.proofs.Filtered.{filtered_by}
 use Rattle.xc_calc.proofs.Rivals.{is_eq-then}
-use Rattle.xc_calc.specs.Labels.{by_label, both, labelled_view, labelled_at}
+use Rattle.xc_calc.specs.Steps.Labels.{by_label, both, labelled_view, labelled_at}
 use Rattle.xc_calc.specs.Linkbases.{is_link_element, is_locator, is_text, xlink_at}
 use Rattle.xc_calc.specs.declared.locators.Labelled.{Labelled}
 use Rattle.xc_elements.specs.Trees.{parent_of}

@@ -1,15 +1,21 @@
--- Arcs that are compared with one stand among those of its ends.
-use Rattle.std.proofs.Common.{◌≡◌, ◌==◌, ◌&&◌, ◌||◌, ℕ, List, [], ◌∷◌, Bool, true, false, not, take, map, filter, true≢false, if◌then◌else◌, refl, sym, ap, ◌∙◌, arith}
+-- Arcs that are compared with one stand among those that have in common with it what equivalent ones have.
+use Rattle.std.proofs.Common.{◌≡◌, ◌==◌, ◌&&◌, ◌||◌, ◌++◌, ℕ, List, [], ◌∷◌, Bool, true, false, not, take, map, filter, true≢false, if◌then◌else◌, refl, sym, ap, ◌∙◌, arith}
 use Rattle.std.proofs.lemmas.Bool.{and_parts}
 use Rattle.std.proofs.lemmas.Bool.Decides.{nat_tests}
-use Rattle.std.specs.Ordering.{nat_cmp, is_eq, ordering_then, int_eq}
+use Rattle.std.proofs.lemmas.List.{map-append}
+use Rattle.std.proofs.lemmas.List.Elements.{filter-append}
+use Rattle.std.proofs.lemmas.Map.Text.{is_eq-slice_cmp}
+use Rattle.std.specs.Cmp.Lexicographic.{slice_cmp}
+use Rattle.std.specs.Ordering.{nat_cmp, int_cmp, is_eq, ordering_then, int_eq}
 use Rattle.std.specs.Prelude.{int_lt}
 use Rattle.std.specs.Str.{bytes_eq}
 use Rattle.std.specs.declared.cmp.Ordering.{Ordering}
 use Rattle.std.specs.declared.cmp.Ordering.TheVariants.{Less, Equal, Greater}
 use Rattle.xc_calc.specs.Effective.{are_same, is_same_number, is_equivalent, is_prohibited, is_higher, is_rival, is_barred_by, is_effective}
-use Rattle.xc_calc.specs.Steps.{is_between, ends_of, is_effective_among}
-use Rattle.xc_calc.specs.declared.effective.Ends.{Ends}
+use Rattle.xc_calc.specs.Steps.{number_of, by_number, is_number, by_common, IsCommonOf, has_common, is_effective_among}
+use Rattle.xc_calc.specs.declared.effective.Common.{Common}
+use Rattle.xc_calc.specs.declared.effective.Number.{Number}
+use Rattle.xc_decimal.specs.Shortest.{Shortest}
 use Rattle.xc_lists.proofs.Anys.{any_map}
 use Rattle.std.specs.Borrow.{Bor}
 use Rattle.std.specs.List.{list_any}
@@ -33,29 +39,72 @@ is_eq-then Less b = refl
 is_eq-then Equal b = refl
 is_eq-then Greater b = refl
 
-module _ (a b : ListedArc) where
-  -- equivalent arcs have the same ends
-  between : is_equivalent a b ≡ true → is_between (ends_of a) b ≡ true
-  between h =
-      let same_ends = (a.arc.from.0 == b.arc.from.0) && (a.arc.to.0 == b.arc.to.0) in
-      let same_weight = same_ends && bytes_eq a.role b.role && is_same_number a.arc.weight b.arc.weight in
-      let others = and_parts (same_weight && is_same_number a.order b.order) (are_same a.others b.others) h in
-      let order = and_parts same_weight (is_same_number a.order b.order) others.0 in
-      let weight = and_parts (same_ends && bytes_eq a.role b.role) (is_same_number a.arc.weight b.arc.weight) order.0 in
-      let role = and_parts same_ends (bytes_eq a.role b.role) weight.0 in
-      is_eq-then (nat_cmp a.arc.from.0 b.arc.from.0) (nat_cmp a.arc.to.0 b.arc.to.0)
-      ∙ ap (λ c. c && is_eq (nat_cmp a.arc.to.0 b.arc.to.0)) (is_eq-nat_cmp a.arc.from.0 b.arc.from.0)
-      ∙ ap (λ c. (a.arc.from.0 == b.arc.from.0) && c) (is_eq-nat_cmp a.arc.to.0 b.arc.to.0)
-      ∙ role.0
+along : (a b c d e : Bool) → (a && (b && (c && (d && e)))) ≡ (a && b && c && d && e)
+along false b c d e = refl
+along true false c d e = refl
+along true true false d e = refl
+along true true true false e = refl
+along true true true true e = refl
 
-  higher_between : is_higher a b ≡ true → is_between (ends_of a) b ≡ true
-  higher_between h = between (and_parts (is_equivalent a b) (int_lt a.priority b.priority) h).0
+same_number : (m n : Number) (d : Shortest) → n ≡ number_of d → is_eq (by_number m n) ≡ is_number m d
+same_number m n d is =
+    ap (λ n. is_eq (by_number m n)) is
+    ∙ is_eq-then (int_cmp m.digits d.digits) (nat_cmp m.places d.places)
+    ∙ ap (λ b. int_eq m.digits d.digits && b) (is_eq-nat_cmp m.places d.places)
 
-  rival_between : is_rival a b ≡ true → is_between (ends_of a) b ≡ true
-  rival_between h = between (and_parts (is_equivalent a b) (int_eq a.priority b.priority) h).0
+-- keys are equal where the one is that of an arc that has the other in common
+same_common : (q key : Common) (a : ListedArc) → IsCommonOf key a → is_eq (by_common q key) ≡ has_common q a
+same_common q key a is =
+    let from = nat_cmp q.from.0 key.from.0 in
+    let to = nat_cmp q.to.0 key.to.0 in
+    let role = slice_cmp nat_cmp q.role.now key.role.now in
+    let weight = by_number q.weight key.weight in
+    let order = by_number q.order key.order in
+    is_eq-then from (ordering_then to (ordering_then role (ordering_then weight order)))
+    ∙ ap (λ b. is_eq from && b) (is_eq-then to (ordering_then role (ordering_then weight order)))
+    ∙ ap (λ b. is_eq from && (is_eq to && b)) (is_eq-then role (ordering_then weight order))
+    ∙ ap (λ b. is_eq from && (is_eq to && (is_eq role && b))) (is_eq-then weight order)
+    ∙ along (is_eq from) (is_eq to) (is_eq role) (is_eq weight) (is_eq order)
+    ∙ ap (λ b. b && is_eq to && is_eq role && is_eq weight && is_eq order) (is_eq-nat_cmp q.from.0 key.from.0 ∙ ap (λ x. q.from.0 == x.0) is.from)
+    ∙ ap (λ b. (q.from.0 == a.arc.from.0) && b && is_eq role && is_eq weight && is_eq order) (is_eq-nat_cmp q.to.0 key.to.0 ∙ ap (λ x. q.to.0 == x.0) is.to)
+    ∙ ap (λ b. (q.from.0 == a.arc.from.0) && (q.to.0 == a.arc.to.0) && b && is_eq weight && is_eq order) (is_eq-slice_cmp q.role.now key.role.now ∙ ap (bytes_eq q.role.now) is.role)
+    ∙ ap (λ b. (q.from.0 == a.arc.from.0) && (q.to.0 == a.arc.to.0) && bytes_eq q.role.now a.role && b && is_eq order) (same_number q.weight key.weight a.arc.weight is.weight)
+    ∙ ap (λ b. (q.from.0 == a.arc.from.0) && (q.to.0 == a.arc.to.0) && bytes_eq q.role.now a.role && is_number q.weight a.arc.weight && b) (same_number q.order key.order a.order is.order)
 
-  barred_between : is_barred_by a b ≡ true → is_between (ends_of a) b ≡ true
-  barred_between h = rival_between (and_parts (is_rival a b) (is_prohibited b.usage) h).0
+-- an arc that is put last has the list of its key one longer, and no other
+pub put_in_common : (arcs : List ListedArc) (d : Bor ListedArc) (q key : Common) (old new : List (Bor ListedArc)) → IsCommonOf key d.now
+    → map (λ b. b.now) old ≡ filter (has_common q) arcs
+    → new ≡ old ++ (if is_eq (by_common q key) then d ∷ [] else [])
+    → map (λ b. b.now) new ≡ filter (has_common q) (arcs ++ d.now ∷ [])
+put_in_common arcs d q key old new is so_far put =
+    let added = if is_eq (by_common q key) then d ∷ [] else [] in
+    ap (map (λ b. b.now)) put
+    ∙ map-append (λ b. b.now) old added
+    ∙ ap (λ xs. xs ++ map (λ b. b.now) added) so_far
+    ∙ ap (λ xs. filter (has_common q) arcs ++ xs) (chosen (is_eq (by_common q key)))
+    ∙ ap (λ b. filter (has_common q) arcs ++ (if b then d.now ∷ [] else [])) (same_common q key d.now is)
+    ∙ sym (filter-append (has_common q) arcs (d.now ∷ []))
+  where
+    chosen : (b : Bool) → map (λ b. b.now) (if b then d ∷ [] else []) ≡ (if b then d.now ∷ [] else [])
+    chosen true = refl
+    chosen false = refl
+
+module _ (key : Common) (a b : ListedArc) (is : IsCommonOf key a) where
+  -- equivalent arcs have this in common
+  equivalent_common : is_equivalent a b ≡ true → has_common key b ≡ true
+  equivalent_common h =
+      let ends = (a.arc.from.0 == b.arc.from.0) && (a.arc.to.0 == b.arc.to.0) in
+      let common = ends && bytes_eq a.role b.role && is_same_number a.arc.weight b.arc.weight && is_same_number a.order b.order in
+      rw (is.from, is.to, is.role, is.weight, is.order) (and_parts common (are_same a.others b.others) h).0
+
+  higher_common : is_higher a b ≡ true → has_common key b ≡ true
+  higher_common h = equivalent_common (and_parts (is_equivalent a b) (int_lt a.priority b.priority) h).0
+
+  rival_common : is_rival a b ≡ true → has_common key b ≡ true
+  rival_common h = equivalent_common (and_parts (is_equivalent a b) (int_eq a.priority b.priority) h).0
+
+  barred_common : is_barred_by a b ≡ true → has_common key b ≡ true
+  barred_common h = rival_common (and_parts (is_rival a b) (is_prohibited b.usage) h).0
 
 -- the tests in another order
 turned : (p e h b : Bool) → (p && e && h && b) ≡ (p && h && b && e)
@@ -69,25 +118,25 @@ turned true false true false = refl
 turned true false false true = refl
 turned true false false false = refl
 
--- what is found among the arcs of the same ends is found among all
-found_between : (p : ListedArc → Bool) (ends : Ends) (rivals : List (Bor ListedArc)) (arcs : List ListedArc)
-    → ((b : ListedArc) → p b ≡ true → is_between ends b ≡ true)
-    → map (λ b. b.now) rivals ≡ filter (is_between ends) arcs
+-- what is found among the arcs of a key is found among all
+found_of_key : (p : ListedArc → Bool) (key : Common) (rivals : List (Bor ListedArc)) (arcs : List ListedArc)
+    → ((b : ListedArc) → p b ≡ true → has_common key b ≡ true)
+    → map (λ b. b.now) rivals ≡ filter (has_common key) arcs
     → list_any (λ b. p b.now) rivals ≡ list_any p arcs
-found_between p ends rivals arcs within own =
-    any_map p (λ b. b.now) rivals ∙ ap (list_any p) own ∙ found_among p (is_between ends) within arcs
+found_of_key p key rivals arcs within own =
+    any_map p (λ b. b.now) rivals ∙ ap (list_any p) own ∙ found_among p (has_common key) within arcs
 
--- an arc is effective where it is so among the arcs of its ends
-pub effective_between : (arcs : List ListedArc) (at : ℕ) (a : ListedArc) (rivals earlier : List (Bor ListedArc))
-    → map (λ b. b.now) rivals ≡ filter (is_between (ends_of a)) arcs
-    → map (λ b. b.now) earlier ≡ filter (is_between (ends_of a)) (take at arcs)
+-- an arc is effective where it is so among the arcs of its key
+pub effective_of_key : (arcs : List ListedArc) (at : ℕ) (a : ListedArc) (key : Common) (rivals earlier : List (Bor ListedArc)) → IsCommonOf key a
+    → map (λ b. b.now) rivals ≡ filter (has_common key) arcs
+    → map (λ b. b.now) earlier ≡ filter (has_common key) (take at arcs)
     → is_effective_among rivals earlier a ≡ is_effective arcs at a
-effective_between arcs at a rivals earlier own before =
+effective_of_key arcs at a key rivals earlier is own before =
     let used = not (is_prohibited a.usage) in
     let higher = list_any (λ b. is_higher a b.now) rivals in
     let barred = list_any (λ b. is_barred_by a b.now) rivals in
     let first = list_any (is_rival a) (take at arcs) in
-    ap (λ x. used && not x && not higher && not barred) (found_between (is_rival a) (ends_of a) earlier (take at arcs) (rival_between a) before)
-    ∙ ap (λ x. used && not first && not x && not barred) (found_between (is_higher a) (ends_of a) rivals arcs (higher_between a) own)
-    ∙ ap (λ x. used && not first && not (list_any (is_higher a) arcs) && not x) (found_between (is_barred_by a) (ends_of a) rivals arcs (barred_between a) own)
+    ap (λ x. used && not x && not higher && not barred) (found_of_key (is_rival a) key earlier (take at arcs) (λ b. rival_common key a b is) before)
+    ∙ ap (λ x. used && not first && not x && not barred) (found_of_key (is_higher a) key rivals arcs (λ b. higher_common key a b is) own)
+    ∙ ap (λ x. used && not first && not (list_any (is_higher a) arcs) && not x) (found_of_key (is_barred_by a) key rivals arcs (λ b. barred_common key a b is) own)
     ∙ turned used (not first) (not (list_any (is_higher a) arcs)) (not (list_any (is_barred_by a) arcs))

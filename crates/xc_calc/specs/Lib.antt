@@ -2,7 +2,6 @@ pub mod Attributes
 pub mod Codes
 pub mod Effective
 pub mod Ends
-pub mod Labels
 pub mod Laws
 pub mod Linkbases
 pub mod Linked

@@ -1,11 +1,13 @@
 -- What private steps of the code say. No public clause cites them.
-use Rattle.std.specs.Prelude.{◌≡◌, ◌&&◌, ℕ, List, [], Vec, Bool, not, map, filter}
+pub mod Labels
+use Rattle.std.specs.Prelude.{◌≡◌, ◌==◌, ◌&&◌, ℕ, List, [], Vec, Bool, not, map, filter}
 use Rattle.std.specs.BTreeMap.{BTreeMap, get}
 use Rattle.std.specs.Borrow.{Bor}
 use Rattle.std.specs.Cmp.Lexicographic.{slice_cmp}
 use Rattle.std.specs.List.{list_any}
 use Rattle.std.specs.Option.{option_map_or}
-use Rattle.std.specs.Ordering.{nat_cmp, is_eq, ordering_then}
+use Rattle.std.specs.Ordering.{nat_cmp, int_cmp, int_eq, ordering_then}
+use Rattle.std.specs.Str.{bytes_eq}
 use Rattle.std.specs.declared.cmp.Ordering.{Ordering}
 use Rattle.xc_calc.specs.Effective.{is_prohibited, is_rival, is_higher, is_barred_by}
 use Rattle.xc_calc.specs.Linked.{Drawn}
@@ -13,7 +15,9 @@ use Rattle.xc_calc.specs.Networks.{arcs_of}
 use Rattle.xc_calc.specs.declared.arc.Arc.{Arc}
 use Rattle.xc_calc.specs.declared.arc.ListedArc.{ListedArc}
 use Rattle.xc_calc.specs.declared.drawn.Drawn as kept
-use Rattle.xc_calc.specs.declared.effective.Ends.{Ends}
+use Rattle.xc_calc.specs.declared.effective.Common.{Common}
+use Rattle.xc_calc.specs.declared.effective.Number.{Number}
+use Rattle.xc_decimal.specs.Shortest.{Shortest}
 
 -- what an arc element says, as the code keeps it
 abbrev pub drawn_view : kept.Drawn → Drawn
@@ -27,21 +31,42 @@ by_bytes a b = slice_cmp nat_cmp a.now b.now
 abbrev pub list_of : {K X Y : Type 0} → (K → K → Ordering) → BTreeMap K (Vec X Y) → K → List X
 list_of cmp lists key = option_map_or (λ list. list.items) (get cmp lists key) []
 
--- the ends of an arc
-abbrev pub ends_of : ListedArc → Ends
-ends_of a = record { from = a.arc.from; to = a.arc.to }
+-- a decimal number, as the code compares it
+abbrev pub number_of : Shortest → Number
+number_of d = record { digits = d.digits; places = d.places }
 
--- ends in the order of their first concepts, and then of their second ones
-abbrev pub by_ends : Ends → Ends → Ordering
-by_ends a b = ordering_then (nat_cmp a.from.0 b.from.0) (nat_cmp a.to.0 b.to.0)
+-- numbers in the order of their digits, and then of their places
+abbrev pub by_number : Number → Number → Ordering
+by_number a b = ordering_then (int_cmp a.digits b.digits) (nat_cmp a.places b.places)
 
--- the arc has these ends
-abbrev pub is_between : Ends → ListedArc → Bool
-is_between ends a = is_eq (by_ends ends (ends_of a))
+-- by the ends, the role, the weight and the order
+abbrev pub by_common : Common → Common → Ordering
+by_common a b =
+    ordering_then (nat_cmp a.from.0 b.from.0)
+    (ordering_then (nat_cmp a.to.0 b.to.0)
+    (ordering_then (slice_cmp nat_cmp a.role.now b.role.now)
+    (ordering_then (by_number a.weight b.weight) (by_number a.order b.order))))
 
--- each list has the arcs of its ends, in their order
-abbrev pub AreByEnds : {Y : Type 0} → BTreeMap Ends (Vec (Bor ListedArc) Y) → List ListedArc → Type 0
-AreByEnds lists arcs = (ends : Ends) → map (λ b. b.now) (list_of by_ends lists ends) ≡ filter (is_between ends) arcs
+-- the ends, the role, the weight and the order are those of the arc
+pub record IsCommonOf (key : Common) (a : ListedArc) : Type 0 where
+  pub from : key.from ≡ a.arc.from
+  pub to : key.to ≡ a.arc.to
+  pub role : key.role.now ≡ a.role
+  pub weight : key.weight ≡ number_of a.arc.weight
+  pub order : key.order ≡ number_of a.order
+
+abbrev pub is_number : Number → Shortest → Bool
+is_number n d = int_eq n.digits d.digits && (n.places == d.places)
+
+-- and compare as the same
+abbrev pub has_common : Common → ListedArc → Bool
+has_common key a =
+    (key.from.0 == a.arc.from.0) && (key.to.0 == a.arc.to.0) && bytes_eq key.role.now a.role
+    && is_number key.weight a.arc.weight && is_number key.order a.order
+
+-- each list has the arcs that have this in common, in their order
+abbrev pub AreByCommon : {Y : Type 0} → BTreeMap Common (Vec (Bor ListedArc) Y) → List ListedArc → Type 0
+AreByCommon lists arcs = (key : Common) → map (λ b. b.now) (list_of by_common lists key) ≡ filter (has_common key) arcs
 
 -- the arc is effective among these, where those stand before it
 abbrev pub is_effective_among : List (Bor ListedArc) → List (Bor ListedArc) → ListedArc → Bool

@@ -2,7 +2,7 @@
 ghost use Rattle.std.specs.Prelude.{◌≡◌, ◌++◌, ◌∷◌, [], ℕ, List, map, take, IfOk, OnOk};
 ghost use Rattle.std.specs.List.{list_any, list_all};
 ghost use Rattle.xc_calc.specs.Effective.{is_same_number, is_same_attribute, are_among, are_same, is_equivalent, is_prohibited, is_higher, is_rival, is_barred_by, is_effective, effective_arcs};
-ghost use Rattle.xc_calc.specs.Steps.{AreByEnds, ends_of, is_effective_among};
+ghost use Rattle.xc_calc.specs.Steps.{AreByCommon, IsCommonOf, number_of, is_effective_among};
 ghost use Rattle.xc_calc.specs.declared.arc.ListedArc.{ListedArc};
 
 use crate::arc::{ListedArc, Use};
@@ -14,11 +14,21 @@ use xc_elements::Attribute;
 use xc_lists::Memory;
 use xc_names::NameId;
 
-/// The concepts at both ends of an arc, which equivalent arcs have in common.
+/// A decimal number, as two are compared.
 #[derive(Clone, Copy, PartialEq, Eq, PartialOrd, Ord)]
-pub(crate) struct Ends {
+pub(crate) struct Number {
+    pub digits: i128,
+    pub places: u32,
+}
+
+/// What equivalent arcs have in common, their other attributes aside.
+#[derive(Clone, Copy, PartialEq, Eq, PartialOrd, Ord)]
+pub(crate) struct Common<'a> {
     pub from: NameId,
     pub to: NameId,
+    pub role: &'a str,
+    pub weight: Number,
+    pub order: Number,
 }
 
 fn is_same_number(a: Decimal, b: Decimal) -> bool
@@ -110,33 +120,46 @@ fn some_rival(arcs: &[&ListedArc], a: &ListedArc) -> bool
     arcs.iter().any(|b| is_rival(a, b))
 }
 
-// The concepts at the ends of an arc.
-fn ends_of(a: &ListedArc) -> Ends
-    ensures { result ≡ ends_of a.now }
+fn number_of(number: Decimal) -> Number
+    ensures { result ≡ number_of number }
 {
-    Ends {
-        from: a.arc.from,
-        to: a.arc.to,
+    Number {
+        digits: number.digits(),
+        places: number.places(),
     }
 }
 
-// Puts an arc behind those that have its ends.
-fn put_arc<'a>(
-    alloc: Global,
-    lists: &mut BTreeMap<Ends, Vec<&'a ListedArc>>,
-    a: &'a ListedArc,
-) -> Result<(), Memory>
-    ensures { OnOk result ((arcs : List ListedArc) → AreByEnds lists.old arcs → AreByEnds lists.new (arcs ++ a.now ∷ [])) }
+// What an arc has in common with those that are equivalent.
+fn common_of(a: &ListedArc) -> Common<'_>
+    ensures { IsCommonOf result a.now }
 {
-    put_last(alloc, lists, ends_of(a), a)
+    Common {
+        from: a.arc.from,
+        to: a.arc.to,
+        role: a.role.as_str(),
+        weight: number_of(a.arc.weight),
+        order: number_of(a.order),
+    }
 }
 
-// The arcs of a list by their ends.
-fn by_ends<'a>(
+// Puts an arc behind those with which it has all in common.
+fn put_arc<'a>(
+    alloc: Global,
+    lists: &mut BTreeMap<Common<'a>, Vec<&'a ListedArc>>,
+    a: &'a ListedArc,
+) -> Result<(), Memory>
+    ensures { OnOk result ((arcs : List ListedArc) → AreByCommon lists.old arcs → AreByCommon lists.new (arcs ++ a.now ∷ [])) }
+{
+    put_last(alloc, lists, common_of(a), a)?;
+    Ok(())
+}
+
+// The arcs of a list by what equivalent ones have in common.
+fn by_common<'a>(
     alloc: Global,
     arcs: &'a [ListedArc],
-) -> Result<BTreeMap<Ends, Vec<&'a ListedArc>>, Memory>
-    ensures { IfOk result (λ lists. AreByEnds lists arcs.now) }
+) -> Result<BTreeMap<Common<'a>, Vec<&'a ListedArc>>, Memory>
+    ensures { IfOk result (λ lists. AreByCommon lists arcs.now) }
 {
     let mut lists = BTreeMap::new(alloc);
     for a in arcs {
@@ -156,17 +179,17 @@ fn is_effective_among(rivals: &[&ListedArc], earlier: &[&ListedArc], a: &ListedA
         && !some_bar(rivals, a)
 }
 
-// Whether an arc is effective among all arcs, of which some stand before it. It is compared with those of
-// its ends alone, since no others are equivalent.
-fn is_effective(
-    all: &BTreeMap<Ends, Vec<&ListedArc>>,
-    earlier: &BTreeMap<Ends, Vec<&ListedArc>>,
-    a: &ListedArc,
+// Whether an arc is effective among all arcs, of which some stand before it. It is compared with those
+// alone that have in common with it what equivalent ones have.
+fn is_effective<'a>(
+    all: &BTreeMap<Common<'a>, Vec<&'a ListedArc>>,
+    earlier: &BTreeMap<Common<'a>, Vec<&'a ListedArc>>,
+    a: &'a ListedArc,
 ) -> bool
-    ensures { (arcs : List ListedArc) (at : ℕ) → AreByEnds all.now arcs → AreByEnds earlier.now (take at arcs) → result ≡ is_effective arcs at a.now }
+    ensures { (arcs : List ListedArc) (at : ℕ) → AreByCommon all.now arcs → AreByCommon earlier.now (take at arcs) → result ≡ is_effective arcs at a.now }
 {
-    let ends = ends_of(a);
-    is_effective_among(list_of(all, &ends), list_of(earlier, &ends), a)
+    let key = common_of(a);
+    is_effective_among(list_of(all, &key), list_of(earlier, &key), a)
 }
 
 /// The effective arcs of a list, in its order.
@@ -176,7 +199,7 @@ pub(crate) fn effective_arcs<'a>(
 ) -> Result<Vec<&'a ListedArc>, Memory>
     ensures { IfOk result (λ effective. map (λ a. a.now) effective.items ≡ effective_arcs arcs.now) }
 {
-    let all = by_ends(alloc, arcs)?;
+    let all = by_common(alloc, arcs)?;
     let mut earlier = BTreeMap::new(alloc);
     let mut effective = Vec::new(alloc);
     for (at, a) in arcs.iter().enumerate() {

@@ -1,7 +1,7 @@
 // The elements of a linkbase document.
 ghost use Rattle.std.specs.Prelude.{◌≡◌, ◌<◌, length, option_map};
 ghost use Rattle.xc_calc.specs.Linkbases.{is_linkbase, is_link_node, is_link_element, is_child, xlink_at, plain_at, is_link, role_at, chosen_arcrole, is_text, is_in_link, is_arc, is_chosen};
-ghost use Rattle.xc_calc.specs.Labels.{is_linked_locator};
+ghost use Rattle.xc_calc.specs.Steps.Labels.{is_linked_locator};
 
 use crate::arc::ArcKind;
 use xc_elements::{Node, Tree};

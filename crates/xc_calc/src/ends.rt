@@ -1,7 +1,7 @@
 // The locators at the ends of an arc element, and the concepts that they name.
 ghost use Rattle.std.specs.Prelude.{◌≡◌, ◌<◌, length};
 ghost use Rattle.xc_calc.specs.Ends.{resolved, located, end_at};
-ghost use Rattle.xc_calc.specs.Labels.{AreLocators};
+ghost use Rattle.xc_calc.specs.Steps.Labels.{AreLocators};
 
 use crate::elements::xlink_at;
 use crate::locators::Locators;

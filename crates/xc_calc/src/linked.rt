@@ -1,7 +1,7 @@
 // The arcs of a linkbase document, in reading order, and the first rule that it breaks.
 ghost use Rattle.std.specs.Prelude.{◌≡◌, ◌<◌, ◌++◌, ◌⊎◌, Some, None, length, map, All, IfOk, IfErr, OnOk};
 ghost use Rattle.xc_calc.specs.Ends.{located, sources, targets};
-ghost use Rattle.xc_calc.specs.Labels.{AreLocators};
+ghost use Rattle.xc_calc.specs.Steps.Labels.{AreLocators};
 ghost use Rattle.xc_calc.specs.Linked.{arc_between, arcs_between, concepts_at, arcs_of_element, arcs_at, arcs_in};
 ghost use Rattle.xc_calc.specs.Rules.{kind_fault, locator_fault, ends_fault, arc_fault, broken_at, first_broken};
 ghost use Rattle.xc_calc.specs.Steps.{drawn_view};

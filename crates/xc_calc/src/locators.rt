@@ -1,7 +1,7 @@
 // The locators of a linkbase, found by extended link and label without going through its nodes.
 ghost use Rattle.std.specs.Prelude.{◌≡◌, ◌<◌, ◌+◌, length, option_map, IfOk, OnOk, ℕ, List};
 ghost use Rattle.xc_calc.specs.Ends.{locators};
-ghost use Rattle.xc_calc.specs.Labels.{labelled_at, labelled_view, AreLabelled, AreLocators};
+ghost use Rattle.xc_calc.specs.Steps.Labels.{labelled_at, labelled_view, AreLabelled, AreLocators};
 ghost use Rattle.xc_elements.specs.declared.nodes.Node.{Node};
 
 use crate::elements::{is_linked_locator, xlink_at};

@@ -2,7 +2,7 @@ use Rattle.std.proofs.Common.{◌≡◌, ◌+◌, ◌++◌, ◌∷◌, [], Some,
 use Rattle.std.proofs.lemmas.List.{map-append, take_more}
 use Rattle.std.proofs.lemmas.Option.{slice_get-get_or}
 use Rattle.xc_calc.specs.Effective.{effective_at, is_effective}
-use Rattle.xc_calc.specs.Steps.{is_between}
+use Rattle.xc_calc.specs.Steps.{has_common}
 use Rattle.xc_lists.proofs.Ranges.{gathered_more}
 use Rattle.xc_lists.specs.Places.{before}
 use Rattle.xc_calc.proofs.effective.effective_arcs.Goals.{then-kept+in_ok-push, else-kept}
@@ -35,5 +35,5 @@ loop-at-preserved c =
             ∙ ap (λ o. so_far ++ option_to_list o) (sym (here ∙ ap (λ b. if b then Some item else None) (sym kept ∙ w.if-kept.false)))
             ∙ sym (gathered_more given at)
       ];
-      earlier = λ ends. c.in_ok-put_arc.ensures (take at arcs) c.loop-at.invariant.earlier ends ∙ ap (filter (is_between ends)) (sym grown);
+      earlier = λ key. c.in_ok-put_arc.ensures (take at arcs) c.loop-at.invariant.earlier key ∙ ap (filter (has_common key)) (sym grown);
     }

@@ -1,6 +1,6 @@
 use Rattle.std.proofs.Common.{◌≡◌, map, take, filter_map}
 use Rattle.xc_calc.specs.Effective.{effective_at}
-use Rattle.xc_calc.specs.Steps.{AreByEnds}
+use Rattle.xc_calc.specs.Steps.{AreByCommon}
 use Rattle.xc_lists.specs.Places.{before}
 use Rattle.xc_calc.proofs.effective.effective_arcs.Given as goal
 
@@ -8,5 +8,5 @@ use Rattle.xc_calc.proofs.effective.effective_arcs.Given as goal
 abbrev pub invariant-loop-at : goal.invariant-loop-at
 invariant-loop-at l = record {
   effective : map (λ a. a.now) l.effective.items ≡ filter_map (effective_at l.arcs) (before l.at);
-  earlier : AreByEnds l.earlier (take l.at l.arcs);
+  earlier : AreByCommon l.earlier (take l.at l.arcs);
 }

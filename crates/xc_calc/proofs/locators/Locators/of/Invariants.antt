@@ -1,4 +1,4 @@
-use Rattle.xc_calc.specs.Labels.{AreLabelled}
+use Rattle.xc_calc.specs.Steps.Labels.{AreLabelled}
 use Rattle.xc_calc.proofs.locators.Locators.of.Given as goal
 
 -- the lists have the locators of the nodes so far

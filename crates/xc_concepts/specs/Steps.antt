@@ -1,5 +1,5 @@
 -- What private steps of the code say. No public clause cites them.
-use Rattle.std.specs.Prelude.{nat_lt, ℕ, List, Bool, false, Option, Some, None, if◌then◌else◌}
+use Rattle.std.specs.Prelude.{◌≡◌, nat_lt, ℕ, List, Bool, false, Option, Some, None, if◌then◌else◌}
 use Rattle.std.specs.Borrow.{Bor}
 use Rattle.std.specs.List.{list_any}
 use Rattle.std.specs.Option.{option_map_or}
@@ -21,9 +21,21 @@ use Rattle.xc_names.specs.Names.{is_named}
 abbrev pub reference_view : lent.Reference → Reference
 reference_view r = record { at = r.at; text = r.text.now }
 
+-- one of the lent texts is this one
+abbrev pub has_text : List (Bor (List ℕ)) → List ℕ → Bool
+has_text texts x = list_any (λ t. bytes_eq x t.now) texts
+
+-- there is a lent text, and it is this one
+abbrev pub is_text : List ℕ → Option (Bor (List ℕ)) → Bool
+is_text x text = option_map_or (λ t. bytes_eq x t.now) text false
+
 -- there is a text, and it is one of these
 abbrev pub is_text_of : List (Bor (List ℕ)) → Option (Bor (List ℕ)) → Bool
-is_text_of texts text = option_map_or (λ x. list_any (λ t. bytes_eq x.now t.now) texts) text false
+is_text_of texts text = option_map_or (λ x. has_text texts x.now) text false
+
+-- the lent texts are the texts of a list, in whatever order
+abbrev pub AreTexts : List (Bor (List ℕ)) → List (List ℕ) → Type 0
+AreTexts texts list = (x : List ℕ) → has_text texts x ≡ list_any (bytes_eq x) list
 
 -- there is a local part, and one of the schemas has a concept with this name
 abbrev pub is_concept_of : List Schema → List ℕ → Option (Bor (List ℕ)) → Bool

@@ -136,8 +136,8 @@ fn copied(alloc: Global, text: Option<&str>) -> Result<Option<Text>, Memory>
     }
 }
 
-/// Puts what there is at the end of a list.
-pub(crate) fn keep<T: Drop>(list: &mut Vec<T>, item: Option<T>) -> Result<(), Memory>
+// Puts what there is at the end of a list.
+fn keep<T: Drop>(list: &mut Vec<T>, item: Option<T>) -> Result<(), Memory>
     ensures { OnOk result (list.new.items ≡ list.old.items ++ option_to_list item) }
 {
     if let Some(item) = item {

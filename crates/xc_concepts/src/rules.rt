@@ -1,18 +1,17 @@
 // The rules that a schema is held to, and the first that it breaks.
-ghost use Rattle.std.specs.Prelude.{◌≡◌, ◌<◌, ◌||◌, length, option_map, IfOk, IfSome};
+ghost use Rattle.std.specs.Prelude.{◌≡◌, ◌<◌, ◌||◌, ℕ, List, length, option_map, IfOk, OnOk, IfSome};
 ghost use Rattle.std.specs.List.{list_any};
-ghost use Rattle.std.specs.Str.{bytes_eq};
 ghost use Rattle.xc_lists.specs.Places.{places, first_place, first_given, least};
 ghost use Rattle.xc_concepts.specs.Rules.{nameless_at, is_nameless, id_at, repeats_id, repeats_concept, broken_at};
-ghost use Rattle.xc_concepts.specs.Steps.{is_text_of, is_concept_of, nameless_fault, id_fault, concept_fault, earlier};
+ghost use Rattle.xc_concepts.specs.Steps.{has_text, is_text, is_text_of, is_concept_of, nameless_fault, id_fault, concept_fault, earlier};
 ghost use Rattle.xc_names.specs.Names.{is_named};
 
 use crate::elements::{target, text_at, top_name};
 use crate::fault::SchemaFault;
-use crate::reading::keep;
 use crate::references::{judged_at, type_name};
 use crate::schema::Schema;
 use std::alloc::Global;
+use std::collections::BTreeSet;
 use xc_elements::Tree;
 use xc_lists::Memory;
 
@@ -112,13 +111,11 @@ fn nameless_at(tree: &Tree, at: u32) -> Option<u32>
 fn first_repeated_id(alloc: Global, tree: &Tree) -> Result<Option<u32>, Memory>
     ensures { IfOk result (λ at. at ≡ first_place (repeats_id tree.now) (places tree.now)) }
 {
-    let mut ids = Vec::new(alloc);
+    let mut ids = BTreeSet::new(alloc);
     for at in 0..tree.count() {
-        let id = id_at(tree, at);
-        if has_text(ids.as_slice(), id) {
+        if note_text(&mut ids, id_at(tree, at))? {
             return Ok(Some(at));
         }
-        keep(&mut ids, id)?;
     }
     Ok(None)
 }
@@ -139,38 +136,39 @@ fn first_repeated_concept(
 ) -> Result<Option<u32>, Memory>
     ensures { IfOk result (λ at. at ≡ first_place (repeats_concept schemas.now tree.now) (places tree.now)) }
 {
-    let mut names = Vec::new(alloc);
+    let mut names = BTreeSet::new(alloc);
     for at in 0..tree.count() {
-        let name = top_name(tree, "element", at);
-        if is_taken(schemas, target(tree), names.as_slice(), name) {
+        if is_taken(schemas, target(tree), &mut names, top_name(tree, "element", at))? {
             return Ok(Some(at));
         }
-        keep(&mut names, name)?;
     }
     Ok(None)
 }
 
-// Whether there is a local part, and a concept of this name is in one of the schemas or among these.
-fn is_taken(schemas: &[Schema], space: &str, locals: &[&str], local: Option<&str>) -> bool
-    ensures { result ≡ (is_concept_of schemas.now space.now local.entry || is_text_of locals.now local.entry) }
+// Whether there is a local part, and a concept of this name is in one of the schemas or among these,
+// to which it is put.
+fn is_taken<'a>(
+    schemas: &[Schema],
+    space: &str,
+    locals: &mut BTreeSet<&'a str>,
+    local: Option<&'a str>,
+) -> Result<bool, Memory>
+    ensures taken { IfOk result (λ taken. taken ≡ (is_concept_of schemas.now space.now local.entry || is_text_of locals.old.keys local.entry)) }
+    ensures more { OnOk result ((x : List ℕ) → has_text locals.new.keys x ≡ (has_text locals.old.keys x || is_text x local.entry)) }
 {
-    has_concept(schemas, space, local) || has_text(locals, local)
+    let repeated = note_text(locals, local)?;
+    Ok(has_concept(schemas, space, local) || repeated)
 }
 
-// Whether there is a text and it is one of these.
-fn has_text(texts: &[&str], text: Option<&str>) -> bool
-    ensures { result ≡ is_text_of texts.now text.entry }
+// Puts a text, where there is one, among these, and tells whether it was there.
+fn note_text<'a>(texts: &mut BTreeSet<&'a str>, text: Option<&'a str>) -> Result<bool, Memory>
+    ensures there { IfOk result (λ there. there ≡ is_text_of texts.old.keys text.entry) }
+    ensures more { OnOk result ((x : List ℕ) → has_text texts.new.keys x ≡ (has_text texts.old.keys x || is_text x text.entry)) }
 {
     match text {
-        Some(text) => contains(texts, text),
-        None => false,
+        Some(text) => Ok(!texts.insert(text)?),
+        None => Ok(false),
     }
-}
-
-fn contains(texts: &[&str], text: &str) -> bool
-    ensures { result ≡ list_any (λ t. bytes_eq text.now t.now) texts.now }
-{
-    texts.iter().any(|t| text == *t)
 }
 
 // Whether there is a local part and one of the schemas declares a concept of this name.

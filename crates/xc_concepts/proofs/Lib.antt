@@ -2,8 +2,8 @@ pub mod Earlier
 pub mod Flat
 pub mod Gathered
 pub mod Inside
-pub mod Keeping
 pub mod Least
+pub mod NumbersByIds
 pub mod OneChain
 pub mod Repeats
 pub mod Walks

@@ -15,6 +15,8 @@ use Rattle.xc_concepts.specs.declared.schema.Schema.{Schema}
 use Rattle.xc_elements.specs.declared.nodes.Node.{Node}
 use Rattle.xc_names.specs.Names.{is_named}
 
+pub mod Ids
+
 -- ---- lent texts
 
 -- a lent text that names a type, at its node

@@ -1,18 +1,20 @@
-ghost use Rattle.std.specs.Prelude.{◌≡◌, ◌⊎◌, [], true, None, Some, find, map, IfOk, IfErr, OnOk, OnErr, IfSome, option_map};
+ghost use Rattle.std.specs.Prelude.{◌≡◌, ◌⊎◌, ◌++◌, ◌∷◌, [], true, false, None, Some, find, map, IfOk, IfErr, OnOk, OnErr, IfSome, option_map};
 ghost use Rattle.std.specs.Option.{option_copied};
 ghost use Rattle.xc_concepts.specs.Chains.{IsKind, concept_numbered, has_number, kind_of};
-ghost use Rattle.xc_concepts.specs.Held.{AreHeld, IsWith, has_id, schema_of, number_by_id, is_typed, AreTyped};
+ghost use Rattle.xc_concepts.specs.Held.{AreHeld, IsWith, number_by_id, is_typed, AreTyped};
 ghost use Rattle.xc_concepts.specs.Rules.{first_broken, has_file};
 ghost use Rattle.xc_concepts.specs.Schemas.{is_schema};
 ghost use Rattle.xc_names.specs.Names.{KeepsNumbers};
 
 use crate::fault::SchemaFault;
+use crate::ids::{Files, note_file, number_at, numbers_by_id};
 use crate::kind::{Kind, kind_by};
 use crate::reading::read_schema;
 use crate::rules::first_broken;
 use crate::schema::{Concept, Schema};
 use crate::typed::{is_typed, typed_numbers};
 use std::alloc::Global;
+use std::collections::BTreeMap;
 use std::marker::Model;
 use xc_elements::Tree;
 use xc_lists::Memory;
@@ -20,20 +22,25 @@ use xc_names::{NameId, Names};
 
 /// What the schemas of a taxonomy declare, in the order in which they are added.
 ///
-/// Concepts, types and ids are lists that are searched.
+/// An ordered map from files to ordered maps from ids has the numbers of concepts, so a look-up by id
+/// takes the logarithms of their lengths. The rest are lists that are searched.
 #[derive(Drop)]
 pub struct Concepts {
     schemas: Vec<Schema>,
+    ids: Files,
     alloc: Global,
 }
 
 impl Model for Concepts {
     ghost use Rattle.std.specs.Prelude.{List};
     ghost use Rattle.xc_concepts.specs.declared.schema.Schema.{Schema};
+    ghost use Rattle.xc_concepts.specs.Steps.Ids.{AreNumbersOf};
 
     ghost Value = { List Schema };
 
     ghost view = { λ c. c.schemas.items };
+
+    ghost invariant = { λ c. AreNumbersOf c.schemas.items c.ids };
 }
 
 impl Concepts {
@@ -43,6 +50,7 @@ impl Concepts {
     {
         Concepts {
             schemas: Vec::new(alloc),
+            ids: BTreeMap::new(alloc),
             alloc,
         }
     }
@@ -82,10 +90,22 @@ impl Concepts {
             return Err(fault);
         }
         let schema = read_schema(self.alloc, names, file, tree)?;
-        match self.schemas.push(schema) {
-            Ok(()) => Ok(()),
-            Err(_) => Err(SchemaFault::Memory),
-        }
+        self.keep(schema)?;
+        Ok(())
+    }
+
+    // Room is made and the ids are gathered first, so that nothing is left behind where memory is
+    // wanting.
+    fn keep(&mut self, schema: Schema) -> Result<(), Memory>
+        requires { has_file self.old schema.file ≡ false }
+        ensures kept { OnOk result (self.new ≡ self.old ++ schema ∷ []) }
+        ensures err { OnErr result (self.new ≡ self.old) }
+    {
+        self.schemas.reserve(1)?;
+        let numbers = numbers_by_id(self.alloc, schema.concepts.as_slice())?;
+        note_file(&mut self.ids, self.alloc, schema.file.as_str(), numbers)?;
+        self.schemas.push_reserved(schema);
+        Ok(())
     }
 
     /// The number of the concept that an id names in the schema of a file; None exactly where that
@@ -93,11 +113,8 @@ impl Concepts {
     pub fn by_id(&self, file: &str, id: &str) -> Option<NameId>
         ensures { option_map (λ n. n.0) result ≡ number_by_id self.now file.now id.now }
     {
-        let Some(schema) = schema_of(self.schemas.as_slice(), file) else {
-            return None;
-        };
-        match concept_with_id(schema.concepts.as_slice(), id) {
-            Some(concept) => Some(concept.number),
+        match number_at(&self.ids, file, id) {
+            Some(number) => Some(NameId(number)),
             None => None,
         }
     }
@@ -138,27 +155,6 @@ fn has_file(schemas: &[Schema], file: &str) -> bool
     ensures { result ≡ has_file schemas.now file.now }
 {
     schemas.iter().any(|schema| file == schema.file.as_str())
-}
-
-fn schema_of<'a>(schemas: &'a [Schema], file: &str) -> Option<&'a Schema>
-    ensures { option_copied result ≡ schema_of schemas.now file.now }
-{
-    schemas.iter().find(|schema| file == schema.file.as_str())
-}
-
-fn concept_with_id<'a>(concepts: &'a [Concept], id: &str) -> Option<&'a Concept>
-    ensures { option_copied result ≡ find (has_id id.now) concepts.now }
-{
-    concepts.iter().find(|concept| has_id(concept, id))
-}
-
-fn has_id(concept: &Concept, id: &str) -> bool
-    ensures { result ≡ has_id id.now concept.now }
-{
-    match &concept.declared.id {
-        Some(text) => id == text.as_str(),
-        None => false,
-    }
 }
 
 // The concept with this number.

@@ -5,6 +5,7 @@
 mod concepts;
 mod elements;
 mod fault;
+mod ids;
 mod kind;
 pub mod laws;
 mod reading;

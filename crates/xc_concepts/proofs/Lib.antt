@@ -3,6 +3,8 @@ pub mod Flat
 pub mod Gathered
 pub mod Inside
 pub mod Least
+pub mod LinkLists
+pub mod Numbering
 pub mod NumbersByIds
 pub mod OneChain
 pub mod Repeats

@@ -18,7 +18,8 @@ pub and_then_cond : {A B : Type 0} (f : A → Option B) (b : Bool) (x : A) (o : 
 and_then_cond f true x o = refl
 and_then_cond f false x o = refl
 
-or_along : {A : Type 0} (a b c : Option A) → option_or (option_or a b) c ≡ option_or a (option_or b c)
+-- what is first of three, however they are grouped
+pub or_along : {A : Type 0} (a b c : Option A) → option_or (option_or a b) c ≡ option_or a (option_or b c)
 or_along None b c = refl
 or_along (Some x) b c = refl
 

@@ -16,6 +16,7 @@ use Rattle.xc_elements.specs.declared.nodes.Node.{Node}
 use Rattle.xc_names.specs.Names.{is_named}
 
 pub mod Ids
+pub mod Links
 
 -- ---- lent texts
 

@@ -1,6 +1,5 @@
-ghost use Rattle.std.specs.Prelude.{◌≡◌, ◌⊎◌, ◌++◌, ◌∷◌, [], true, false, None, Some, find, map, IfOk, IfErr, OnOk, OnErr, IfSome, option_map};
-ghost use Rattle.std.specs.Option.{option_copied};
-ghost use Rattle.xc_concepts.specs.Chains.{IsKind, concept_numbered, has_number, kind_of};
+ghost use Rattle.std.specs.Prelude.{◌≡◌, ◌⊎◌, ◌++◌, ◌∷◌, [], true, false, None, Some, map, is_some, IfOk, IfErr, OnOk, OnErr, IfSome, option_map};
+ghost use Rattle.xc_concepts.specs.Chains.{IsKind, concept_numbered, kind_of};
 ghost use Rattle.xc_concepts.specs.Held.{AreHeld, IsWith, number_by_id, is_typed, AreTyped};
 ghost use Rattle.xc_concepts.specs.Rules.{first_broken, has_file};
 ghost use Rattle.xc_concepts.specs.Schemas.{is_schema};
@@ -9,10 +8,12 @@ ghost use Rattle.xc_names.specs.Names.{KeepsNumbers};
 use crate::fault::SchemaFault;
 use crate::ids::{Files, note_file, number_at, numbers_by_id};
 use crate::kind::{Kind, kind_by};
+use crate::links::{Links, TypeName, concept_links, put_all, type_links};
 use crate::reading::read_schema;
 use crate::rules::first_broken;
-use crate::schema::{Concept, Schema};
+use crate::schema::Schema;
 use crate::typed::{is_typed, typed_numbers};
+use indexmap::IndexMap;
 use std::alloc::Global;
 use std::collections::BTreeMap;
 use std::marker::Model;
@@ -22,25 +23,32 @@ use xc_names::{NameId, Names};
 
 /// What the schemas of a taxonomy declare, in the order in which they are added.
 ///
-/// An ordered map from files to ordered maps from ids has the numbers of concepts, so a look-up by id
-/// takes the logarithms of their lengths. The rest are lists that are searched.
+/// Maps go with the schemas: from files and ids to the numbers of concepts, from these numbers to the
+/// names of their types, and from types to their bases. So no look-up goes through the concepts or
+/// types.
 #[derive(Drop)]
 pub struct Concepts {
     schemas: Vec<Schema>,
     ids: Files,
+    first_types: Links<u64>,
+    bases: Links<TypeName>,
     alloc: Global,
 }
 
 impl Model for Concepts {
     ghost use Rattle.std.specs.Prelude.{List};
     ghost use Rattle.xc_concepts.specs.declared.schema.Schema.{Schema};
+    ghost use Rattle.xc_concepts.specs.Declarations.{concepts_in, types_in};
     ghost use Rattle.xc_concepts.specs.Steps.Ids.{AreNumbersOf};
+    ghost use Rattle.xc_concepts.specs.Steps.Links.{AreFirstTypes, AreBases};
 
     ghost Value = { List Schema };
 
     ghost view = { λ c. c.schemas.items };
 
-    ghost invariant = { λ c. AreNumbersOf c.schemas.items c.ids };
+    ghost invariant = { λ c. AreNumbersOf c.schemas.items c.ids
+        × AreFirstTypes (concepts_in c.schemas.items) c.first_types
+        × AreBases (types_in c.schemas.items) c.bases };
 }
 
 impl Concepts {
@@ -51,6 +59,8 @@ impl Concepts {
         Concepts {
             schemas: Vec::new(alloc),
             ids: BTreeMap::new(alloc),
+            first_types: IndexMap::new(alloc),
+            bases: IndexMap::new(alloc),
             alloc,
         }
     }
@@ -86,7 +96,7 @@ impl Concepts {
         if has_file(self.schemas.as_slice(), file) {
             return Err(SchemaFault::SameFile);
         }
-        if let Some(fault) = first_broken(self.alloc, self.schemas.as_slice(), tree)? {
+        if let Some(fault) = first_broken(self.alloc, self, names, tree)? {
             return Err(fault);
         }
         let schema = read_schema(self.alloc, names, file, tree)?;
@@ -94,16 +104,21 @@ impl Concepts {
         Ok(())
     }
 
-    // Room is made and the ids are gathered first, so that nothing is left behind where memory is
-    // wanting.
+    // All is gathered and room is made first, so that nothing is left behind where memory is wanting.
     fn keep(&mut self, schema: Schema) -> Result<(), Memory>
         requires { has_file self.old schema.file ≡ false }
         ensures kept { OnOk result (self.new ≡ self.old ++ schema ∷ []) }
         ensures err { OnErr result (self.new ≡ self.old) }
     {
-        self.schemas.reserve(1)?;
+        let first_types = concept_links(self.alloc, schema.concepts.as_slice())?;
+        let bases = type_links(self.alloc, schema.types.as_slice())?;
         let numbers = numbers_by_id(self.alloc, schema.concepts.as_slice())?;
+        self.schemas.reserve(1)?;
+        self.first_types.reserve(first_types.len())?;
+        self.bases.reserve(bases.len())?;
         note_file(&mut self.ids, self.alloc, schema.file.as_str(), numbers)?;
+        put_all(&mut self.first_types, first_types);
+        put_all(&mut self.bases, bases);
         self.schemas.push_reserved(schema);
         Ok(())
     }
@@ -126,13 +141,18 @@ impl Concepts {
         // and as a function of the number
         ensures computed { result ≡ kind_of self.now concept.0 }
     {
-        let Some(concept) = concept_numbered(self.schemas.as_slice(), concept) else {
-            return Kind::Unknown;
-        };
-        match &concept.declared.first_type {
-            Some(first) => kind_by(self.schemas.as_slice(), first),
-            None => Kind::Other,
+        match self.first_types.get(&concept.0) {
+            Some(Some(first)) => kind_by(self.schemas.as_slice(), &self.bases, first),
+            Some(None) => Kind::Other,
+            None => Kind::Unknown,
         }
+    }
+
+    /// Whether a concept has this number.
+    pub(crate) fn has(&self, number: NameId) -> bool
+        ensures { result ≡ is_some (concept_numbered self.now number.0) }
+    {
+        self.first_types.contains_key(&number.0)
     }
 
     /// Whether a concept is a typed dimension (XBRL Dimensions 1.0, section 2.5.2.1). A name that is
@@ -155,23 +175,4 @@ fn has_file(schemas: &[Schema], file: &str) -> bool
     ensures { result ≡ has_file schemas.now file.now }
 {
     schemas.iter().any(|schema| file == schema.file.as_str())
-}
-
-// The concept with this number.
-fn concept_numbered(schemas: &[Schema], number: NameId) -> Option<&Concept>
-    ensures { option_copied result ≡ concept_numbered schemas.now number.0 }
-{
-    for schema in schemas {
-        let found = concept_in(schema.concepts.as_slice(), number);
-        if found.is_some() {
-            return found;
-        }
-    }
-    None
-}
-
-fn concept_in(concepts: &[Concept], number: NameId) -> Option<&Concept>
-    ensures { option_copied result ≡ find (has_number number.0) concepts.now }
-{
-    concepts.iter().find(|concept| concept.number.0 == number.0)
 }

@@ -1,11 +1,12 @@
 // The kinds of concepts, by chains of type names.
-ghost use Rattle.std.specs.Prelude.{◌≡◌, [], option_map, length};
-ghost use Rattle.std.specs.Option.{option_copied};
-ghost use Rattle.xc_concepts.specs.Chains.{is_decimal, is_item_type, type_named, base_name, kind_by_last, IsKindBy, kind_from};
+ghost use Rattle.std.specs.Prelude.{◌≡◌, [], List, option_map, length};
+ghost use Rattle.xc_concepts.specs.Chains.{is_decimal, is_item_type, base_name, kind_by_last, IsKindBy, kind_from};
 ghost use Rattle.xc_concepts.specs.Declarations.{types_in};
+ghost use Rattle.xc_concepts.specs.Steps.Links.{as_name, AreBases};
+ghost use Rattle.xc_concepts.specs.declared.schema.NamedType.{NamedType};
 
-use crate::schema::{NamedType, Schema};
-use xc_names::Expanded;
+use crate::links::{Links, TypeName};
+use crate::schema::Schema;
 
 const INSTANCE_SPACE: &str = "http://www.xbrl.org/2003/instance";
 
@@ -24,20 +25,21 @@ pub enum Kind {
 /// The kind by the chain of type names that begins with this one.
 ///
 /// A chain that has more names than there are types has one of them twice, so it leads back to itself.
-pub(crate) fn kind_by(schemas: &[Schema], first: &Expanded) -> Kind
-    ensures chain { IsKindBy (types_in schemas.now) first.now result }
-    ensures computed { result ≡ kind_from (types_in schemas.now) first.now }
+pub(crate) fn kind_by(schemas: &[Schema], bases: &Links<TypeName>, first: &TypeName) -> Kind
+    requires { AreBases (types_in schemas.now) bases.now }
+    ensures chain { IsKindBy (types_in schemas.now) (as_name first.now) result }
+    ensures computed { result ≡ kind_from (types_in schemas.now) (as_name first.now) }
 {
     let mut name = first;
     let mut left = count_types(schemas);
-    while let Some(base) = base_name(schemas, name) {
+    while let Some(base) = base_name(bases, name) {
         if left == 0 {
             return Kind::Unknown;
         }
         left -= 1;
         name = base;
     }
-    kind_of_last(schemas, name)
+    kind_of_last(bases, name)
 }
 
 // How many types the schemas have.
@@ -52,21 +54,21 @@ fn count_types(schemas: &[Schema]) -> u128
 }
 
 // The name of the base of the type with this name.
-fn base_name<'a>(schemas: &'a [Schema], name: &Expanded) -> Option<&'a Expanded>
-    ensures { option_map (λ n. n.now) result ≡ base_name (types_in schemas.now) name.now }
+fn base_name<'a>(bases: &'a Links<TypeName>, name: &TypeName) -> Option<&'a TypeName>
+    ensures { (types : List NamedType) → AreBases types bases.now → option_map (λ n. as_name n.now) result ≡ base_name types (as_name name.now) }
 {
     if is_item_type(name) {
         return None;
     }
-    match type_named(schemas, name) {
-        Some(named) => named.base.as_ref(),
+    match bases.get(name) {
+        Some(base) => base.as_ref(),
         None => None,
     }
 }
 
 // The kind by the last name of a chain that does not lead back to itself.
-fn kind_of_last(schemas: &[Schema], name: &Expanded) -> Kind
-    ensures { result ≡ kind_by_last (types_in schemas.now) [] name.now }
+fn kind_of_last(bases: &Links<TypeName>, name: &TypeName) -> Kind
+    ensures { (types : List NamedType) → AreBases types bases.now → result ≡ kind_by_last types [] (as_name name.now) }
 {
     if is_item_type(name) {
         if is_decimal(name.local.as_str()) {
@@ -74,14 +76,15 @@ fn kind_of_last(schemas: &[Schema], name: &Expanded) -> Kind
         }
         return Kind::Other;
     }
-    match type_named(schemas, name) {
-        Some(_) => Kind::Other,
-        None => Kind::Unknown,
+    if bases.contains_key(name) {
+        Kind::Other
+    } else {
+        Kind::Unknown
     }
 }
 
-fn is_item_type(name: &Expanded) -> bool
-    ensures { result ≡ is_item_type name.now }
+fn is_item_type(name: &TypeName) -> bool
+    ensures { result ≡ is_item_type (as_name name.now) }
 {
     name.space.as_str() == INSTANCE_SPACE
 }
@@ -110,23 +113,4 @@ fn is_decimal(local: &str) -> bool
             | "unsignedByteItemType"
             | "positiveIntegerItemType"
     )
-}
-
-// The first type with this name.
-fn type_named<'a>(schemas: &'a [Schema], name: &Expanded) -> Option<&'a NamedType>
-    ensures { option_copied result ≡ type_named (types_in schemas.now) name.now }
-{
-    for schema in schemas {
-        let found = type_in(schema.types.as_slice(), name);
-        if found.is_some() {
-            return found;
-        }
-    }
-    None
-}
-
-fn type_in<'a>(types: &'a [NamedType], name: &Expanded) -> Option<&'a NamedType>
-    ensures { option_copied result ≡ type_named types.now name.now }
-{
-    types.iter().find(|named| named.name.is(name.space.as_str(), name.local.as_str()))
 }

@@ -8,6 +8,7 @@ mod fault;
 mod ids;
 mod kind;
 pub mod laws;
+mod links;
 mod reading;
 mod references;
 mod rules;

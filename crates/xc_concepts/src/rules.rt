@@ -2,30 +2,35 @@
 ghost use Rattle.std.specs.Prelude.{◌≡◌, ◌<◌, ◌||◌, ℕ, List, length, option_map, IfOk, OnOk, IfSome};
 ghost use Rattle.std.specs.List.{list_any};
 ghost use Rattle.xc_lists.specs.Places.{places, first_place, first_given, least};
+ghost use Rattle.xc_concepts.specs.Held.{AreHeld};
 ghost use Rattle.xc_concepts.specs.Rules.{nameless_at, is_nameless, id_at, repeats_id, repeats_concept, broken_at};
 ghost use Rattle.xc_concepts.specs.Steps.{has_text, is_text, is_text_of, is_concept_of, nameless_fault, id_fault, concept_fault, earlier};
 ghost use Rattle.xc_names.specs.Names.{is_named};
 
+use crate::concepts::Concepts;
 use crate::elements::{target, text_at, top_name};
 use crate::fault::SchemaFault;
 use crate::references::{judged_at, type_name};
-use crate::schema::Schema;
 use std::alloc::Global;
 use std::collections::BTreeSet;
 use xc_elements::Tree;
 use xc_lists::Memory;
+use xc_names::Names;
+use xc_names::laws::numbers_tell_names;
 
 /// The first rule that a node of the document breaks.
 pub(crate) fn first_broken(
     alloc: Global,
-    schemas: &[Schema],
+    concepts: &Concepts,
+    names: &Names,
     tree: &Tree,
 ) -> Result<Option<SchemaFault>, Memory>
-    ensures { IfOk result (λ fault. fault ≡ first_given (broken_at schemas.now tree.now) (places tree.now)) }
+    requires { AreHeld concepts.now names.now }
+    ensures { IfOk result (λ fault. fault ≡ first_given (broken_at concepts.now tree.now) (places tree.now)) }
 {
     let nameless = nameless_fault(first_nameless(tree));
     let id = id_fault(first_repeated_id(alloc, tree)?);
-    let concept = concept_fault(first_repeated_concept(alloc, schemas, tree)?);
+    let concept = concept_fault(first_repeated_concept(alloc, concepts, names, tree)?);
     match earlier(earlier(nameless, id), concept) {
         Some((_, fault)) => Ok(Some(fault)),
         None => Ok(None),
@@ -131,14 +136,17 @@ fn id_at<'a>(tree: &'a Tree, at: u32) -> Option<&'a str>
 // The first node whose concept was declared before, in one of the schemas or at an earlier node.
 fn first_repeated_concept(
     alloc: Global,
-    schemas: &[Schema],
+    concepts: &Concepts,
+    names: &Names,
     tree: &Tree,
 ) -> Result<Option<u32>, Memory>
-    ensures { IfOk result (λ at. at ≡ first_place (repeats_concept schemas.now tree.now) (places tree.now)) }
+    requires { AreHeld concepts.now names.now }
+    ensures { IfOk result (λ at. at ≡ first_place (repeats_concept concepts.now tree.now) (places tree.now)) }
 {
-    let mut names = BTreeSet::new(alloc);
+    let mut locals = BTreeSet::new(alloc);
     for at in 0..tree.count() {
-        if is_taken(schemas, target(tree), &mut names, top_name(tree, "element", at))? {
+        let local = top_name(tree, "element", at);
+        if is_taken(concepts, names, target(tree), &mut locals, local)? {
             return Ok(Some(at));
         }
     }
@@ -148,16 +156,18 @@ fn first_repeated_concept(
 // Whether there is a local part, and a concept of this name is in one of the schemas or among these,
 // to which it is put.
 fn is_taken<'a>(
-    schemas: &[Schema],
+    concepts: &Concepts,
+    names: &Names,
     space: &str,
     locals: &mut BTreeSet<&'a str>,
     local: Option<&'a str>,
 ) -> Result<bool, Memory>
-    ensures taken { IfOk result (λ taken. taken ≡ (is_concept_of schemas.now space.now local.entry || is_text_of locals.old.keys local.entry)) }
+    requires { AreHeld concepts.now names.now }
+    ensures taken { IfOk result (λ taken. taken ≡ (is_concept_of concepts.now space.now local.entry || is_text_of locals.old.keys local.entry)) }
     ensures more { OnOk result ((x : List ℕ) → has_text locals.new.keys x ≡ (has_text locals.old.keys x || is_text x local.entry)) }
 {
     let repeated = note_text(locals, local)?;
-    Ok(has_concept(schemas, space, local) || repeated)
+    Ok(has_concept(concepts, names, space, local) || repeated)
 }
 
 // Puts a text, where there is one, among these, and tells whether it was there.
@@ -172,27 +182,24 @@ fn note_text<'a>(texts: &mut BTreeSet<&'a str>, text: Option<&'a str>) -> Result
 }
 
 // Whether there is a local part and one of the schemas declares a concept of this name.
-fn has_concept(schemas: &[Schema], space: &str, local: Option<&str>) -> bool
-    ensures { result ≡ is_concept_of schemas.now space.now local.entry }
+fn has_concept(concepts: &Concepts, names: &Names, space: &str, local: Option<&str>) -> bool
+    requires { AreHeld concepts.now names.now }
+    ensures { result ≡ is_concept_of concepts.now space.now local.entry }
 {
     match local {
-        Some(local) => is_declared(schemas, space, local),
+        Some(local) => is_declared(concepts, names, space, local),
         None => false,
     }
 }
 
-fn is_declared(schemas: &[Schema], space: &str, local: &str) -> bool
-    ensures { result ≡ list_any (λ s. list_any (λ c. is_named space.now local.now c.declared.name) s.concepts) schemas.now }
+// A concept's name has its number, and no other name has it.
+fn is_declared(concepts: &Concepts, names: &Names, space: &str, local: &str) -> bool
+    requires { AreHeld concepts.now names.now }
+    ensures { result ≡ list_any (λ s. list_any (λ c. is_named space.now local.now c.declared.name) s.concepts) concepts.now }
 {
-    schemas.iter().any(|schema| declares(schema, space, local))
-}
-
-fn declares(schema: &Schema, space: &str, local: &str) -> bool
-    ensures { result ≡ list_any (λ c. is_named space.now local.now c.declared.name) schema.now.concepts }
-{
-    schema
-        .concepts
-        .as_slice()
-        .iter()
-        .any(|concept| concept.declared.name.is(space, local))
+    numbers_tell_names();
+    match names.find(space, local) {
+        Some(number) => concepts.has(number),
+        None => false,
+    }
 }

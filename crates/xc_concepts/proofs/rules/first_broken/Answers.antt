@@ -6,9 +6,9 @@ use Rattle.xc_concepts.proofs.rules.first_broken.Goals as goal
 pub returns-in-Some : goal.returns-in-Some
 returns-in-Some c =
     ap (option_map (λ x. x.1)) (sym c.in-Some.is ∙ c.earlier-2.ensures ∙ (λ i. earlier ((c.earlier.ensures ∙ (λ j. earlier ((c.nameless_fault-nameless.ensures ∙ ap (option_map nameless_fault) c.first_nameless.ensures) j) ((c.id_fault-id.ensures ∙ ap (option_map id_fault) c.in_ok-first_repeated_id.ensures) j))) i) ((c.concept_fault-concept.ensures ∙ ap (option_map concept_fault) c.in_ok-first_repeated_concept.ensures) i)))
-    ∙ first_broken_by_rules c.args.schemas.now c.args.tree.now (length c.args.tree.now)
+    ∙ first_broken_by_rules c.args.concepts.now c.args.tree.now (length c.args.tree.now)
 
 pub returns-in-None : goal.returns-in-None
 returns-in-None c =
     ap (option_map (λ x. x.1)) (sym c.in-None.is ∙ c.earlier-2.ensures ∙ (λ i. earlier ((c.earlier.ensures ∙ (λ j. earlier ((c.nameless_fault-nameless.ensures ∙ ap (option_map nameless_fault) c.first_nameless.ensures) j) ((c.id_fault-id.ensures ∙ ap (option_map id_fault) c.in_ok-first_repeated_id.ensures) j))) i) ((c.concept_fault-concept.ensures ∙ ap (option_map concept_fault) c.in_ok-first_repeated_concept.ensures) i)))
-    ∙ first_broken_by_rules c.args.schemas.now c.args.tree.now (length c.args.tree.now)
+    ∙ first_broken_by_rules c.args.concepts.now c.args.tree.now (length c.args.tree.now)

@@ -9,9 +9,9 @@ use Rattle.xc_concepts.proofs.rules.first_repeated_concept.Goals as goal
 pub returns-then-branch : goal.returns-then-branch
 returns-then-branch c =
     let nodes = c.args.tree.now in
-    let schemas = c.args.schemas.now in
+    let schemas = c.args.concepts.now in
     let at = c.loop-at.at in
-    let tested = concept_repeated schemas nodes at c.target.result.now c.loop-at.names.keys c.top_name.result c.target.ensures c.top_name.ensures c.loop-at.invariant.names in
+    let tested = concept_repeated schemas nodes at c.target.result.now c.loop-at.locals.keys c.top_name-local.result c.target.ensures c.top_name-local.ensures c.loop-at.invariant.names in
     sym (sym c.loop-at.invariant.left
     ∙ first_here (place_where (repeats_concept schemas nodes)) at (length nodes) at (omega (arith, c.loop-at-test.true, c.count-at-end.ensures))
     (ap (λ b. if b then Some at else None) (sym tested ∙ sym c.in_ok-is_taken.ensures.taken ∙ c.if-branch.true)))
@@ -19,12 +19,12 @@ returns-then-branch c =
 pub loop-at-preserved : goal.loop-at-preserved
 loop-at-preserved c =
     let nodes = c.args.tree.now in
-    let schemas = c.args.schemas.now in
+    let schemas = c.args.concepts.now in
     let at = c.loop-at.at in
-    let name = c.top_name.result in
-    let tested = concept_repeated schemas nodes at c.target.result.now c.loop-at.names.keys name c.target.ensures c.top_name.ensures c.loop-at.invariant.names in
+    let name = c.top_name-local.result in
+    let tested = concept_repeated schemas nodes at c.target.result.now c.loop-at.locals.keys name c.target.ensures c.top_name-local.ensures c.loop-at.invariant.names in
     record {
-      names = texts_more c.loop-at.names.keys c.is_taken.new.locals.keys (top_name nodes (codes "element")) at name c.top_name.ensures c.loop-at.invariant.names c.in_ok-is_taken.ensures.more;
+      names = texts_more c.loop-at.locals.keys c.is_taken.new.locals.keys (top_name nodes (codes "element")) at name c.top_name-local.ensures c.loop-at.invariant.names c.in_ok-is_taken.ensures.more;
       left =
           first_step (place_where (repeats_concept schemas nodes)) at (length nodes) (omega (arith, c.loop-at-test.true, c.count-at-end.ensures))
           (ap (λ b. if b then Some at else None) (sym tested ∙ sym c.in_ok-is_taken.ensures.taken ∙ c.if-branch.false))

@@ -9,6 +9,6 @@ use Rattle.xc_concepts.proofs.rules.first_repeated_concept.Given as goal
 -- the names of the concepts so far, of which none is repeated
 abbrev pub invariant-loop-at : goal.invariant-loop-at
 invariant-loop-at l = record {
-  names : AreTexts l.names.keys (filter_map (top_name l.tree (codes "element")) (before l.at));
-  left : first_place (repeats_concept l.schemas l.tree) (range_with_len l.at (length l.tree - l.at)) ≡ first_place (repeats_concept l.schemas l.tree) (places l.tree);
+  names : AreTexts l.locals.keys (filter_map (top_name l.tree (codes "element")) (before l.at));
+  left : first_place (repeats_concept l.concepts l.tree) (range_with_len l.at (length l.tree - l.at)) ≡ first_place (repeats_concept l.concepts l.tree) (places l.tree);
 }

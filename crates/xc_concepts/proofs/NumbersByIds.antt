@@ -1,5 +1,5 @@
 -- Numbers of concepts in maps by ids and files.
-use Rattle.std.proofs.Common.{◌≡◌, ◌<◌, ◌+◌, ℕ, suc, List, [], ◌∷◌, Bool, true, false, Option, Some, None, cond, drop, get_or, length, ◌++◌, ◌||◌, find, option_map, option_and_then, if◌then◌else◌, add-one, true≢false, refl, sym, ap, ◌∙◌}
+use Rattle.std.proofs.Common.{◌≡◌, ◌<◌, ◌+◌, ℕ, List, [], ◌∷◌, Bool, true, false, Option, Some, None, cond, drop, get_or, length, ◌++◌, ◌||◌, find, option_map, option_and_then, if◌then◌else◌, add-one, true≢false, refl, sym, ap, ◌∙◌}
 use Rattle.std.proofs.Math.Seq.{drop-cons}
 use Rattle.std.proofs.lemmas.Slice.Eq.{bytes_eq-Decides}
 use Rattle.std.proofs.lemmas.Cmp.{nat_list_eq_equiv}

@@ -24,8 +24,8 @@ use xc_names::{NameId, Names};
 /// What the schemas of a taxonomy declare, in the order in which they are added.
 ///
 /// Maps go with the schemas: from files and ids to the numbers of concepts, from these numbers to the
-/// names of their types, and from types to their bases. So no look-up goes through the concepts or
-/// types.
+/// names of their types, and from types to their bases. So neither an id nor a kind is searched among
+/// all concepts or types.
 #[derive(Drop)]
 pub struct Concepts {
     schemas: Vec<Schema>,

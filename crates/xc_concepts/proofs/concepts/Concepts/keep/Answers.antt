@@ -20,8 +20,7 @@ invariant_of-self-2 c =
     let numbers = c.in_ok-numbers.numbers in
     let firsts = c.in_ok-first_types.first_types in
     let bases = c.in_ok-bases.bases in
-    let whole = sym (c.push_reserved.ensures.items ∙ ap (λ s. s ++ schema ∷ []) c.in_ok-reserve.ensures.items) in
-    (
+    let whole = sym (c.push_reserved.ensures.items ∙ ap (λ s. s ++ schema ∷ []) c.in_ok-reserve.ensures.items) in (
       λ file id.
           numbers_after schemas schema (get_by_text numbers) (number_at c.self.inside.ids) (number_at c.note_file.new.files)
           (ap (λ s. has_file s schema.file) c.self.view_is ∙ c.requires)

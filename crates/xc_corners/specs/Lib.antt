@@ -1,5 +1,10 @@
+pub mod Answers
+pub mod Checking
 pub mod Choices
+pub mod Conflicts
 pub mod Corners
+pub mod Ending
+pub mod LastOperations
 pub mod Laws
 pub mod Operations
 pub mod Pairs

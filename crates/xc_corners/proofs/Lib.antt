@@ -10,6 +10,7 @@ pub mod NextValues
 pub mod OneChoice
 pub mod Pairs
 pub mod Pivoting
+pub mod Refuted
 pub mod Runs
 pub mod SolvedForms
 pub mod StepNumbers

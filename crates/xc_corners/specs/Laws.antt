@@ -6,6 +6,7 @@ use Rattle.xc_interval.specs.declared.interval.Interval.{Interval}
 use Rattle.xc_model.specs.Parts.{WholeParts}
 use Rattle.xc_model.specs.Ratio.{Ratio, IsOver}
 use Rattle.xc_corners.specs.Choices.{first, exchanged, Exchange, Exchanges, Moves, IsReached, IsReachedBy, IsFeasible, IsConflict}
+use Rattle.xc_corners.specs.Conflicts.{multiplier, Refutes}
 use Rattle.xc_corners.specs.Corners.{variables, low_bound, high_bound, Corner, Factors, IsSolvedForm}
 use Rattle.xc_corners.specs.Operations.{Gives, IsOwnFactor, IsOtherFactor, IsProductFactor, IsFactor, IsValuePart, IsStep, IsMove, IsSumOf, weights_of_range, entries_of, IsLowSum, IsLowPart, part, passed_bound}
 use Rattle.xc_corners.specs.Problems.{WholeProblem, IsWholeProblem, IsProblem}
@@ -145,3 +146,10 @@ RowBounds = (problem : Problem) (j : ℕ) → length problem.ranges ≤ j → (l
 -- there are as many variables as ranges and rows
 abbrev pub CountsVariables : Type 0
 CountsVariables = (problem : Problem) → (length (whole problem).ranges ≡ length problem.ranges) × (variables (whole problem) ≡ length problem.ranges + length problem.rows)
+
+-- ---- The last corner.
+
+-- at a conflict the counts of the variables refute the problem
+abbrev pub ConflictRefutes : Type 0
+ConflictRefutes = (p : WholeProblem) (x : Corner) (t : Factors) (above : Bool) (b : ℕ) → IsWholeProblem p → IsSolvedForm p x t → IsConflict p x t above b
+    → Refutes p (multiplier x t above b)

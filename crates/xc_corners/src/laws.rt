@@ -1,6 +1,6 @@
 //! What follows from the definitions for all problems. The functions do nothing: code calls one where its
 //! proof needs the clauses.
-ghost use Rattle.xc_corners.specs.Laws.{IsWholeToo, FirstFactors, FirstRowValues, FirstRangeValues, CountsVariables, EndBounds, RowBounds, EnteringFactors, LeavingFactors, OtherFactors, EnteringValue, BasicValue, LeavingValue, OtherValue, HasOneSolvedForm, ExchangeSolves, ReachedSolved, NeverComesBack, HasFewExchanges, HasOneChoice, IsOneRun, FeasibleIsLast, ConflictIsLast};
+ghost use Rattle.xc_corners.specs.Laws.{IsWholeToo, FirstFactors, FirstRowValues, FirstRangeValues, CountsVariables, EndBounds, RowBounds, EnteringFactors, LeavingFactors, OtherFactors, EnteringValue, BasicValue, LeavingValue, OtherValue, HasOneSolvedForm, ExchangeSolves, ReachedSolved, NeverComesBack, HasFewExchanges, HasOneChoice, IsOneRun, FeasibleIsLast, ConflictIsLast, ConflictRefutes};
 
 /// A corner has at most one solved form, an exchange gives that of the next corner, and each corner of the
 /// run has one.
@@ -51,4 +51,9 @@ pub fn problems_are_whole()
     ensures variables { CountsVariables }
     ensures ends { EndBounds }
     ensures zeros { RowBounds }
+{}
+
+/// At a conflict the refutation contradicts the problem.
+pub fn conflicts_contradict()
+    ensures refutes { ConflictRefutes }
 {}

@@ -18,7 +18,7 @@ use Rattle.xc_corners.proofs.CommonDenominators.{Divides, common_positive, is_ti
 use Rattle.xc_corners.proofs.ExchangeNumbers.{over_same_number, over_scaled}
 use Rattle.xc_corners.proofs.StepNumbers.{over_same_den}
 
-range_whole : (problem : Problem) (j : ℕ) (range : Interval Ratio) → slice_get problem.ranges j ≡ Some range → range_of (whole problem) j ≡ between (times_common (common (ends_of problem.ranges))) range
+pub range_whole : (problem : Problem) (j : ℕ) (range : Interval Ratio) → slice_get problem.ranges j ≡ Some range → range_of (whole problem) j ≡ between (times_common (common (ends_of problem.ranges))) range
 unfolding whole
 range_whole problem j range e =
     get_or-map (between (times_common (common (ends_of problem.ranges)))) problem.ranges j range zero_range (slice_get_within problem.ranges j range e)

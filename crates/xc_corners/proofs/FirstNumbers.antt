@@ -40,7 +40,7 @@ module _ (d : ℕ) (h : 0 < d) (j : ℕ) (s : Ratio) where
   weights_add [] f n a e o = over_same_number s n _ d (subst (λ r. IsOver r n d) e o) (omega (arith, ints))
   weights_add (entry ∷ entries) f n a e o = one_weight entry entries f n (eqb entry.0 j) refl a.0 (λ f n e o. weights_add entries f n a.1 e o) e o
 
-row_whole : (problem : Problem) (i : ℕ) → row_at (whole problem) i ≡ map (λ entry. (entry.0, times_common (common (weights_of problem.rows)) entry.1)) (entries_of problem i)
+pub row_whole : (problem : Problem) (i : ℕ) → row_at (whole problem) i ≡ map (λ entry. (entry.0, times_common (common (weights_of problem.rows)) entry.1)) (entries_of problem i)
 unfolding whole
 row_whole problem i = get_or-map (map (λ (entry : ℕ × Ratio). (entry.0, times_common (common (weights_of problem.rows)) entry.1))) problem.rows i []
 
@@ -57,11 +57,11 @@ row_factor problem i j f o =
     over_same_number f _ _ d (weights_add d p j f (entries_of problem i) o.zero (pos 0) (weights_divide problem.rows i) o.adds_up zero_over)
     (zero_cross _ ∙ ap (λ (row : List (ℕ × ℤ)). total row (unit_at j)) (sym (row_whole problem i)))
 
-ranges_whole : (problem : Problem) → length (whole problem).ranges ≡ length problem.ranges
+pub ranges_whole : (problem : Problem) → length (whole problem).ranges ≡ length problem.ranges
 unfolding whole
 ranges_whole problem = length-map problem.ranges (between (times_common (common (ends_of problem.ranges))))
 
-rows_whole : (problem : Problem) → length (whole problem).rows ≡ length problem.rows
+pub rows_whole : (problem : Problem) → length (whole problem).rows ≡ length problem.rows
 unfolding whole
 rows_whole problem = length-map problem.rows (map (λ (entry : ℕ × Ratio). (entry.0, times_common (common (weights_of problem.rows)) entry.1)))
 
@@ -70,11 +70,11 @@ unfolding first_factors
 first_factor problem i j f o = over_same_number f _ _ _ (row_factor problem i j f o)
     (ap (λ (k : ℕ). total (row_at (whole problem) k) (unit_at j)) (let back : i ≡ length problem.ranges + i - length (whole problem).ranges = omega (arith, ranges_whole problem) in back))
 
-scale_positive : (problem : Problem) → 0 < (whole problem).scale
+pub scale_positive : (problem : Problem) → 0 < (whole problem).scale
 unfolding whole
 scale_positive problem = common_positive (weights_of problem.rows)
 
-unit_positive : (problem : Problem) → 0 < (whole problem).unit
+pub unit_positive : (problem : Problem) → 0 < (whole problem).unit
 unfolding whole
 unit_positive problem = common_positive (ends_of problem.ranges)
 

@@ -1,9 +1,12 @@
 pub mod Bounds
 pub mod CommonDenominators
+pub mod Contradicted
 pub mod ExchangeNumbers
+pub mod FeasibleValues
 pub mod FewExchanges
 pub mod FirstCorner
 pub mod FirstNumbers
+pub mod LineSums
 pub mod Moves
 pub mod NeverBack
 pub mod NextValues
@@ -12,9 +15,11 @@ pub mod Pairs
 pub mod Pivoting
 pub mod Refuted
 pub mod Runs
+pub mod SmallNumbers
 pub mod SolvedForms
 pub mod StepNumbers
 pub mod Sums
 pub mod Totals
 pub mod Values
+pub mod Weighed
 pub mod WholeProblems

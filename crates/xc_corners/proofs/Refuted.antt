@@ -1,14 +1,14 @@
 -- At a conflict the counts of the variables refute: no range has a coefficient, and the constant is below 0.
-use Rattle.std.proofs.Common.{◌≡◌, ◌≢◌, ℕ, zero, suc, ◌+◌, ◌-◌, ◌<◌, ◌≤◌, Bool, true, false, cond, [], length, ℤ, pos, negsuc, ◌+ℤ◌, ◌-ℤ◌, ◌*ℤ◌, neg_ℤ, ◌≤ℤ◌, ◌<ℤ◌, ◌⊎◌, inl, inr, refl, sym, ap, ◌∙◌, arith, ltb}
+use Rattle.std.proofs.Common.{◌≡◌, ◌≢◌, ℕ, zero, suc, ◌+◌, ◌-◌, ◌<◌, ◌≤◌, Bool, true, false, cond, [], length, ℤ, pos, negsuc, ◌+ℤ◌, ◌-ℤ◌, ◌*ℤ◌, neg_ℤ, ◌≤ℤ◌, ◌⊎◌, inl, inr, refl, sym, ap, ◌∙◌, arith, ltb}
 use Rattle.std.proofs.lemmas.Int.{ints}
 use Rattle.std.proofs.lemmas.Bool.{cases_eq, eq-eqb, ne_eqb, lt-ltb, le-ltb}
 use Rattle.std.proofs.lemmas.List.{get_or_past}
 use Rattle.std.proofs.Math.Nat.{add-suc, add-zero}
 use Rattle.xc_interval.specs.declared.interval.Interval.{Interval}
 use Rattle.xc_model.specs.Parts.{WholeParts}
-use Rattle.xc_model.proofs.Integers.{ring, mul_assoc}
+use Rattle.xc_model.proofs.Integers.{ring}
 use Rattle.xc_corners.specs.Choices.{Helps, IsConflict}
-use Rattle.xc_corners.specs.Conflicts.{turned, multiplier, end_of, named_end, combined, left_over, nothing, Refutes}
+use Rattle.xc_corners.specs.Conflicts.{turned, multiplier, end_of, combined, left_over, nothing, Refutes}
 use Rattle.xc_corners.specs.Corners.{variables, AddUp, Corner, Factors, sum_for, IsSolvedForm, low_bound, high_bound, bound, value, IsOutside}
 use Rattle.xc_corners.specs.Operations.{passed_bound}
 use Rattle.xc_corners.specs.Pairs.{◌≺◌, times, sum_below}
@@ -79,7 +79,7 @@ times_unit : (f c : ℤ) → f *ℤ (c *ℤ pos 1) +ℤ pos 0 ≡ c *ℤ f
 times_unit f c = rw (times_one c) (omega (arith, ints))
 
 -- of the multiples of units at j, one counts
-only_at : (n j : ℕ) (c : ℤ) (f : ℕ → ℤ) → j < n → sum_below n (λ k. f k *ℤ (c *ℤ unit_at j k)) ≡ c *ℤ f j
+pub only_at : (n j : ℕ) (c : ℤ) (f : ℕ → ℤ) → j < n → sum_below n (λ k. f k *ℤ (c *ℤ unit_at j k)) ≡ c *ℤ f j
 only_at n j c f h = sum_at n j _ h ∙ rw (eq-eqb j j refl, sum_of_zeros n _ (λ k l. rest k (cases_eq k j))) (times_unit (f j) c)
   where
     rest : (k : ℕ) → ((k ≡ j) ⊎ (k ≡ j → ⊥)) → without j (λ i. f i *ℤ (c *ℤ unit_at j i)) k ≡ pos 0
@@ -143,11 +143,11 @@ brought_side c false true f low high n = end_high (neg_ℤ (pos 1 *ℤ f)) low h
 brought_side c true false f low high n = end_low (neg_ℤ (negsuc 0 *ℤ f)) low high c (omega (arith, ints, at_least f n)) ∙ twice_neg (negsuc 0) f (c low)
 brought_side c true true f low high n = end_high (neg_ℤ (negsuc 0 *ℤ f)) low high c (omega (arith, ints, at_most f n)) ∙ twice_neg (negsuc 0) f (c high)
 
-low_past : (p : WholeProblem) (j : ℕ) → length p.ranges ≤ j → low_bound p j ≡ nothing
+pub low_past : (p : WholeProblem) (j : ℕ) → length p.ranges ≤ j → low_bound p j ≡ nothing
 unfolding low_bound
 low_past p j h = ap (λ (g : Interval ℤ). low_pair p.unit g.low) (get_or_past p.ranges j zero_range h)
 
-high_past : (p : WholeProblem) (j : ℕ) → length p.ranges ≤ j → high_bound p j ≡ nothing
+pub high_past : (p : WholeProblem) (j : ℕ) → length p.ranges ≤ j → high_bound p j ≡ nothing
 unfolding high_bound
 high_past p j h = ap (λ (g : Interval ℤ). high_pair p.unit g.high) (get_or_past p.ranges j zero_range h)
 

@@ -1,5 +1,5 @@
 -- Sums over variables.
-use Rattle.std.proofs.Common.{◌≡◌, ℕ, zero, suc, ◌+◌, ◌<◌, ◌≤◌, Bool, true, false, cond, ℤ, pos, ◌+ℤ◌, ◌*ℤ◌, ◌⊎◌, inl, inr, refl, ap, ◌∙◌, sym, arith, eqb}
+use Rattle.std.proofs.Common.{◌≡◌, ℕ, zero, suc, ◌+◌, ◌<◌, ◌≤◌, Bool, true, false, cond, ℤ, pos, ◌+ℤ◌, ◌*ℤ◌, neg_ℤ, ◌⊎◌, inl, inr, refl, ap, ◌∙◌, sym, arith, eqb}
 use Rattle.std.proofs.lemmas.Int.{ints}
 use Rattle.std.proofs.lemmas.Bool.{cases_eq, eq-eqb, ne_eqb}
 use Rattle.std.proofs.Math.Nat.{add-suc, add-zero}
@@ -66,3 +66,7 @@ sum_more a (suc m) f h = rw add-suc (let i : sum_below (a + m) f ≡ sum_below a
 
 pub combine : (n : ℕ) (a c : ℤ) (u v : ℕ → ℤ) → sum_below n (λ j. a *ℤ u j +ℤ c *ℤ v j) ≡ a *ℤ sum_below n u +ℤ c *ℤ sum_below n v
 combine n a c u v = sum_plus n _ _ ∙ ap (λ (w : ℤ). w +ℤ sum_below n (λ j. c *ℤ v j)) (sym (sum_scale n a u)) ∙ ap (λ (w : ℤ). a *ℤ sum_below n u +ℤ w) (sym (sum_scale n c v))
+
+pub sum_minus : (n : ℕ) (f g : ℕ → ℤ) → sum_below n f +ℤ neg_ℤ (sum_below n g) ≡ sum_below n (λ j. f j +ℤ neg_ℤ (g j))
+sum_minus zero f g = refl
+sum_minus (suc n) f g = let i : sum_below n f +ℤ neg_ℤ (sum_below n g) ≡ sum_below n (λ j. f j +ℤ neg_ℤ (g j)) = sum_minus n f g in omega (arith, ints)

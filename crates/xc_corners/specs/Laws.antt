@@ -1,17 +1,21 @@
 -- What follows from the definitions for all problems.
-use Rattle.std.specs.Prelude.{◌≡◌, ◌≢◌, ℕ, suc, ◌+◌, ◌^◌, ◌<◌, ◌≤◌, Bool, true, false, pos, negsuc, ◌*ℤ◌, length, Some, slice_get, if◌then◌else◌}
+use Rattle.std.specs.Prelude.{◌≡◌, ◌≢◌, ℕ, suc, ◌+◌, ◌^◌, ◌<◌, ◌≤◌, Bool, true, false, pos, negsuc, ◌*ℤ◌, ◌<ℤ◌, List, length, Some, slice_get, if◌then◌else◌}
 use Rattle.xc_frac.specs.declared.wide.Op.TheVariants.{Add, Mul}
 use Rattle.xc_interval.specs.Ends.{value_of, is_open}
 use Rattle.xc_interval.specs.declared.interval.Interval.{Interval}
 use Rattle.xc_model.specs.Parts.{WholeParts}
 use Rattle.xc_model.specs.Ratio.{Ratio, IsOver}
 use Rattle.xc_corners.specs.Choices.{first, exchanged, Exchange, Exchanges, Moves, IsReached, IsReachedBy, IsFeasible, IsConflict}
-use Rattle.xc_corners.specs.Conflicts.{multiplier, Refutes}
+use Rattle.xc_corners.specs.Answers.{Solves, Contradicts}
+use Rattle.xc_corners.specs.Conflicts.{multiplier, Refutes, AreOfConflict}
 use Rattle.xc_corners.specs.Corners.{variables, low_bound, high_bound, Corner, Factors, IsSolvedForm}
+use Rattle.xc_corners.specs.Ending.{IsSmallNumber, AreValuesWith}
+use Rattle.xc_corners.specs.LastOperations.{IsFeasibleAt, IsConflictAt}
 use Rattle.xc_corners.specs.Operations.{Gives, IsOwnFactor, IsOtherFactor, IsProductFactor, IsFactor, IsValuePart, IsStep, IsMove, IsSumOf, weights_of_range, entries_of, IsLowSum, IsLowPart, part, passed_bound}
 use Rattle.xc_corners.specs.Problems.{WholeProblem, IsWholeProblem, IsProblem}
 use Rattle.xc_corners.specs.Tables.{first_factors, pivoted}
 use Rattle.xc_corners.specs.WholeNumbers.{whole}
+use Rattle.xc_corners.specs.declared.multipliers.Multipliers.{Multipliers}
 use Rattle.xc_corners.specs.declared.problem.Problem.{Problem}
 
 -- two solved forms of a corner have the same factors
@@ -153,3 +157,17 @@ CountsVariables = (problem : Problem) → (length (whole problem).ranges ≡ len
 abbrev pub ConflictRefutes : Type 0
 ConflictRefutes = (p : WholeProblem) (x : Corner) (t : Factors) (above : Bool) (b : ℕ) → IsWholeProblem p → IsSolvedForm p x t → IsConflict p x t above b
     → Refutes p (multiplier x t above b)
+
+-- so the multipliers of a conflict contradict the problem
+abbrev pub ConflictContradicts : Type 0
+ConflictContradicts = (problem : Problem) (x : Corner) (t : Factors) (above : Bool) (b : ℕ) (m : Multipliers) → IsProblem problem → IsConflictAt problem x t above b
+    → AreOfConflict (whole problem) x t above b m → Contradicts problem m
+
+-- at a feasible corner the small number is positive
+abbrev pub SmallIsPositive : Type 0
+SmallIsPositive = (problem : Problem) (x : Corner) (t : Factors) (s : Ratio) → IsProblem problem → IsFeasibleAt problem x t → IsSmallNumber (whole problem) x t s → pos 0 <ℤ s.num
+
+-- and the values with it solve the problem
+abbrev pub FeasibleSolves : Type 0
+FeasibleSolves = (problem : Problem) (x : Corner) (t : Factors) (s : Ratio) (values : List Ratio) → IsProblem problem → IsFeasibleAt problem x t
+    → IsSmallNumber (whole problem) x t s → AreValuesWith (whole problem) x t s values → Solves problem values

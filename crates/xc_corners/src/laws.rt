@@ -1,6 +1,6 @@
 //! What follows from the definitions for all problems. The functions do nothing: code calls one where its
 //! proof needs the clauses.
-ghost use Rattle.xc_corners.specs.Laws.{IsWholeToo, FirstFactors, FirstRowValues, FirstRangeValues, CountsVariables, EndBounds, RowBounds, EnteringFactors, LeavingFactors, OtherFactors, EnteringValue, BasicValue, LeavingValue, OtherValue, HasOneSolvedForm, ExchangeSolves, ReachedSolved, NeverComesBack, HasFewExchanges, HasOneChoice, IsOneRun, FeasibleIsLast, ConflictIsLast, ConflictRefutes};
+ghost use Rattle.xc_corners.specs.Laws.{IsWholeToo, FirstFactors, FirstRowValues, FirstRangeValues, CountsVariables, EndBounds, RowBounds, EnteringFactors, LeavingFactors, OtherFactors, EnteringValue, BasicValue, LeavingValue, OtherValue, HasOneSolvedForm, ExchangeSolves, ReachedSolved, NeverComesBack, HasFewExchanges, HasOneChoice, IsOneRun, FeasibleIsLast, ConflictIsLast, ConflictRefutes, ConflictContradicts, SmallIsPositive, FeasibleSolves};
 
 /// A corner has at most one solved form, an exchange gives that of the next corner, and each corner of the
 /// run has one.
@@ -53,7 +53,14 @@ pub fn problems_are_whole()
     ensures zeros { RowBounds }
 {}
 
-/// At a conflict the refutation contradicts the problem.
+/// At a conflict the refutation contradicts the problem: in whole numbers, and as its multipliers are listed.
 pub fn conflicts_contradict()
     ensures refutes { ConflictRefutes }
+    ensures contradicts { ConflictContradicts }
+{}
+
+/// At a feasible corner the small number is positive, and the values with it solve the problem.
+pub fn feasible_corners_solve()
+    ensures positive { SmallIsPositive }
+    ensures solves { FeasibleSolves }
 {}

@@ -94,7 +94,7 @@ below_high o n m e f r s hn hm hf k q = turn_less o (m *ℤ e) (m *ℤ r +ℤ n 
     turned (inr h) = inr (omega (arith, ints, h.0), omega (arith, ints, h.1))
 
 -- ---- what that says of fractions
-below_over : (x y : Fraction) (n m : ℤ) (d : ℕ) → IsNumberOver x n d → IsNumberOver y m d → n <ℤ m → IsBelow x y
+pub below_over : (x y : Fraction) (n m : ℤ) (d : ℕ) → IsNumberOver x n d → IsNumberOver y m d → n <ℤ m → IsBelow x y
 below_over x y n m d h k l = record {
   cross = cancel_lt (pos d) _ _ (omega (arith, ints, h.positive)) (ordered x.num (pos x.den) y.num (pos y.den) n m (pos d) (mul_positive (pos x.den) (pos y.den) (den_positive x) (den_positive y)) h.cross k.cross l);
 }
@@ -109,7 +109,7 @@ below_over x y n m d h k l = record {
         let other = right ∙ ap (λ z. z *ℤ b) k ∙ right' in
         omega (arith, ints, one, other, scale_lt (b *ℤ e) n m p l)
 
-same_over : (x y : Fraction) (n m : ℤ) (d : ℕ) → IsNumberOver x n d → IsNumberOver y m d → n ≡ m → SameNumber x y
+pub same_over : (x y : Fraction) (n m : ℤ) (d : ℕ) → IsNumberOver x n d → IsNumberOver y m d → n ≡ m → SameNumber x y
 same_over x y n m d h k e =
     let right : IsNumberOver y n d = subst (λ z. IsNumberOver y z d) (sym e) k in
     same-trans x (ratio n d h.positive) y (number_same x n d h) (same-sym y (ratio n d h.positive) (record { cross = right.cross }))

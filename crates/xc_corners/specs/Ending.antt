@@ -91,13 +91,25 @@ module _ (p : WholeProblem) (x : Corner) (t : Factors) where
     pub each : length values ≡ length p.ranges
     pub are : (j : ℕ) (v : Ratio) → slice_get values j ≡ Some v → IsValueWith s j v
 
+  -- the operations that give the quotient of range j at a bound
+  pub data StandsInQuotient (high : Bool) (j : ℕ) (w : Wide) : Type 0 where
+    margin : (c : Bool) (l v : Ratio) → IsLimitPart high j c l → IsValuePart p x t c j v → w ≡ margin_taken high c l v → StandsInQuotient high j w
+    divided : (f g : Ratio) → IsMargin high j false f → IsMargin high j true g → w ≡ operation Div f g → StandsInQuotient high j w
+
   -- the operations that give the small number
   pub data StandsInSmall (w : Wide) : Type 0 where
-    margin : (high : Bool) (j : ℕ) (c : Bool) (l v : Ratio) → j < length p.ranges → IsTight high j → IsLimitPart high j c l → IsValuePart p x t c j v → w ≡ margin_taken high c l v → StandsInSmall w
-    divided : (high : Bool) (j : ℕ) (f g : Ratio) → j < length p.ranges → IsTight high j → IsMargin high j false f → IsMargin high j true g → w ≡ operation Div f g → StandsInSmall w
+    in_quotient : (high : Bool) (j : ℕ) → j < length p.ranges → IsTight high j → StandsInQuotient high j w → StandsInSmall w
     halved : (r two : Ratio) → IsLeastQuotient r → IsTwo two → w ≡ operation Div r two → StandsInSmall w
 
-  -- the operations that give the values with it
-  pub data StandsInValues (w : Wide) : Type 0 where
-    tiny_times : (j : ℕ) (f s : Ratio) → j < length p.ranges → IsValuePart p x t true j f → IsSmallNumber s → w ≡ operation Mul f s → StandsInValues w
-    real_added : (j : ℕ) (f s m : Ratio) → j < length p.ranges → IsValuePart p x t false j f → IsSmallNumber s → IsTinyProduct s j m → w ≡ operation Add f m → StandsInValues w
+  -- the operations that give the value of range j with the small number s
+  pub data StandsInValue (s : Ratio) (j : ℕ) (w : Wide) : Type 0 where
+    tiny_times : (f : Ratio) → IsValuePart p x t true j f → w ≡ operation Mul f s → StandsInValue s j w
+    real_added : (f m : Ratio) → IsValuePart p x t false j f → IsTinyProduct s j m → w ≡ operation Add f m → StandsInValue s j w
+
+  -- the operations that give the values with the small number
+  pub record StandsInValues (w : Wide) : Type 0 where
+    pub small : Ratio
+    pub is_small : IsSmallNumber small
+    pub range : ℕ
+    pub is_range : range < length p.ranges
+    pub stands : StandsInValue small range w

@@ -1,6 +1,8 @@
+pub mod Answered
 pub mod Beside
 pub mod Both
 pub mod Carried
+pub mod Counts
 pub mod Ended
 pub mod Exchanges
 pub mod FirstPlaces
@@ -10,6 +12,11 @@ pub mod NextState
 pub mod Operands
 pub mod Placed
 pub mod Replaced
+pub mod Smalls
 pub mod Stepped
 pub mod Summed
 pub mod Transfer
+pub mod Leasts
+pub mod Lines
+pub mod Margins
+pub mod Moved

@@ -19,7 +19,7 @@ all_push : (P : ℕ → Type 0) (xs : List ℕ) (n : ℕ) → AllByRecursion P x
 all_push P [] n all h = (h, tt)
 all_push P (x ∷ xs) n all h = (all.0, all_push P xs n all.1 h)
 
-push_ascends : (xs : List ℕ) (n : ℕ) → IsStrictlySortedBy nat_cmp xs → All (λ k. k < n) xs → IsStrictlySortedBy nat_cmp (xs ++ n ∷ [])
+pub push_ascends : (xs : List ℕ) (n : ℕ) → IsStrictlySortedBy nat_cmp xs → All (λ k. k < n) xs → IsStrictlySortedBy nat_cmp (xs ++ n ∷ [])
 unfolding IsStrictlySortedBy
 push_ascends [] n s b = (tt, tt)
 push_ascends (x ∷ xs) n s b = (all_push (λ z. nat_cmp x z ≡ Less) xs n s.0 (less x n (b 0 x (omega arith))), push_ascends xs n s.1 (λ k d l. b (suc k) d (omega arith)))
@@ -33,7 +33,7 @@ push_below (x ∷ xs) n b (suc k) d l = push_below xs n (λ i e m. b (suc i) e (
 more_below : (xs : List ℕ) (n : ℕ) → All (λ k. k < n) xs → All (λ k. k < n + 1) xs
 more_below xs n b k d l = let h = b k d l in omega (arith, h)
 
-none_yet_ascends : IsStrictlySortedBy nat_cmp []
+pub none_yet_ascends : IsStrictlySortedBy nat_cmp []
 unfolding IsStrictlySortedBy
 none_yet_ascends = tt
 

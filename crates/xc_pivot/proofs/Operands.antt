@@ -16,7 +16,7 @@ result_one r s n h l = one_lowest r s (same-trans (fraction_of r) n (fraction_of
 pub sum_one : (f g r s : Ratio) → Gives Add f g r → Gives Add f g s → r ≡ s
 sum_one f g r s h l = result_one r s (sum_of (fraction_of f) (fraction_of g)) h l
 
-difference_one : (f g r s : Ratio) → Gives Sub f g r → Gives Sub f g s → r ≡ s
+pub difference_one : (f g r s : Ratio) → Gives Sub f g r → Gives Sub f g s → r ≡ s
 difference_one f g r s h l = result_one r s (difference_of (fraction_of f) (fraction_of g)) h l
 
 module _ (p : WholeProblem) (x : Corner) (t : Factors) (above : Bool) (b q : ℕ) (c : Bool) where

@@ -28,7 +28,7 @@ module _ (p : WholeProblem) (x : Corner) (s t : Factors) (fs : IsSolvedForm p x 
   factor_moves : (k j : ℕ) (f : Ratio) → IsBasic p x k → IsOther p x j → IsFactor s k j f → IsFactor t k j f
   factor_moves k j f hk hj h = over_other f (s.factor k j) (t.factor k j) s.over t.over ft.positive (one_solved_form p x s t fs ft k j hk.0 hj.0 hk.1 hj.1) h
 
-  value_moves : (c : Bool) (j : ℕ) (f : Ratio) → j < variables p → IsValuePart p x s c j f → IsValuePart p x t c j f
+  pub value_moves : (c : Bool) (j : ℕ) (f : Ratio) → j < variables p → IsValuePart p x s c j f → IsValuePart p x t c j f
   value_moves c j f hj h = over_other f _ _ (s.over * p.unit) (t.over * p.unit) (mul-pos ft.positive unit) (value_cross (part c (value p x s j)) (part c (value p x t j)) (pos s.over) (pos t.over) (pos p.unit) (of c)) h
     where
       of : (c : Bool) → pos t.over *ℤ part c (value p x s j) ≡ pos s.over *ℤ part c (value p x t j)

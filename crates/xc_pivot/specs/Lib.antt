@@ -4,3 +4,6 @@ pub mod States
 pub mod Walks
 pub mod Steps
 pub mod Firsts
+pub mod Quotients
+pub mod SmallValues
+pub mod Solving

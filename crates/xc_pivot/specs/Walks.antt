@@ -9,7 +9,9 @@ use Rattle.xc_corners.specs.Operations.{PassesAt}
 use Rattle.xc_corners.specs.WholeNumbers.{whole}
 use Rattle.xc_corners.specs.declared.problem.Problem.{Problem}
 use Rattle.xc_frac.specs.declared.wide.Wide.{Wide}
-use Rattle.xc_pivot.specs.States.{ArePlaces, IsAt}
+use Rattle.xc_pivot.specs.States.{ArePlaces, IsShaped, IsAt, HasNoChoice}
+use Rattle.xc_pivot.specs.declared.types.Outcome.{Outcome}
+use Rattle.xc_pivot.specs.declared.types.Outcome.TheVariants.{Feasible, Infeasible, TooWide as Stopped}
 use Rattle.xc_pivot.specs.declared.types.Place.{Place}
 use Rattle.xc_pivot.specs.declared.types.State.{State}
 use Rattle.xc_pivot.specs.declared.types.Walk.{Walk}
@@ -41,10 +43,13 @@ abbrev pub IfTooWide : (CornerLists → Wide → Type 0) → Walk → Type 0
 IfTooWide P (Last lists) = Unit {0}
 IfTooWide P (TooWide lists w) = P lists w
 
--- the places tell the last corner, and nothing passes
-pub record EndsAtLast (problem : Problem) (places : List Place) : Type 0 where
+-- the state is that of the last corner, and nothing passes
+pub record EndsAtLast (problem : Problem) (s : State) : Type 0 where
+  pub shaped : IsShaped problem s
   pub corner : Corner
-  pub placed : ArePlaces (length problem.rows) (length problem.ranges) corner places
+  pub factors : Factors
+  pub at : IsAt problem s corner factors
+  pub none : HasNoChoice (whole problem) corner factors
   pub last : IsLast (whole problem) corner
   pub nothing : NothingPasses problem
 
@@ -54,6 +59,12 @@ pub record EndsTooWide (problem : Problem) (places : List Place) (w : Wide) : Ty
   pub placed : ArePlaces (length problem.rows) (length problem.ranges) corner places
   pub reached : IsReached (whole problem) corner
   pub passes : PassesAt problem corner w
+
+-- the answer is the corner of the places, with the operation
+abbrev pub IsStop : List Place → Wide → Outcome → Type 0
+IsStop places w (Feasible values) = ⊥
+IsStop places w (Infeasible m) = ⊥
+IsStop places w (Stopped lists v) = TellsCorner places lists × (w ≡ v)
 
 -- a corner of the run that the state stands for, after some turns; at none before it an operation passes
 pub record AtTurn (problem : Problem) (turns : ℕ) (s : State) : Type 0 where

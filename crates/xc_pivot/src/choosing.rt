@@ -34,8 +34,8 @@ pub fn choice(problem: &Problem, state: &State) -> Option<Choice>
     Some(Choice { leaving, entering })
 }
 
-// The least basic variable that is outside its bounds.
-fn leaving(problem: &Problem, state: &State) -> Option<Leaving>
+/// The least basic variable that is outside its bounds.
+pub fn leaving(problem: &Problem, state: &State) -> Option<Leaving>
     requires small { IsSmallProblem problem.now }
     requires problem { IsProblem problem.now }
     requires shaped { IsShaped problem.now state.now }

@@ -1,6 +1,7 @@
-//! Walks, and what they keep.
-use xc_corners::Corner;
+//! Walks and answers, and what is kept on the way.
+use xc_corners::{Corner, Multipliers};
 use xc_frac::{Delta, Frac, Wide};
+use xc_lists::Items;
 use xc_tableau::Tableau;
 
 /// Where a walk along the corners of a problem ends.
@@ -9,6 +10,17 @@ pub enum Walk {
     /// At the last corner.
     Last(Corner),
     /// At a corner where this operation passes.
+    TooWide(Corner, Wide),
+}
+
+/// What solving a problem answers.
+#[derive(Debug, Drop)]
+pub enum Outcome {
+    /// Values that solve it, one for each range.
+    Feasible(Items<Frac>),
+    /// Multipliers that contradict it.
+    Infeasible(Multipliers),
+    /// A corner where this operation passes.
     TooWide(Corner, Wide),
 }
 

@@ -47,15 +47,15 @@ pub fn walk(alloc: Global, problem: &Problem) -> Result<Walk, Memory>
     })
 }
 
-// Goes from the first corner as far as no operation passes: to the last one, or to one where the answer passes.
-fn to_the_end(problem: &Problem, state: &mut State) -> Option<Wide>
+/// Goes from the first corner as far as no operation passes: to the last one, or to one where the answer passes.
+pub fn to_the_end(problem: &Problem, state: &mut State) -> Option<Wide>
     requires problem { IsProblem problem.now }
     requires small { IsSmallProblem problem.now }
     requires shaped { IsShaped problem.now state.old }
     requires zeros { All IsZero state.old.table.entries }
     requires places { AreFirstPlaces (length problem.now.ranges) state.old.places.items }
     ensures few { length state.new.places.items < 2 ^ 32 }
-    ensures none { IfNone result (EndsAtLast problem.now state.new.places.items) }
+    ensures none { IfNone result (EndsAtLast problem.now state.new) }
     ensures some { IfSome result (EndsTooWide problem.now state.new.places.items) }
 {
     problems_are_whole();
@@ -76,7 +76,7 @@ fn run<L: Ledger>(problem: &Problem, state: &mut State, blank: Blank) -> Option<
     requires at { IsAt problem.now state.old (first (whole problem.now)) (first_factors (whole problem.now)) }
     requires fits { (w : Wide) → ¬ PassesFirst problem.now w }
     ensures few { length state.new.places.items < 2 ^ 32 }
-    ensures none { IfNone result (EndsAtLast problem.now state.new.places.items) }
+    ensures none { IfNone result (EndsAtLast problem.now state.new) }
     ensures some { IfSome result (EndsTooWide problem.now state.new.places.items) }
 {
     problems_are_whole();
@@ -91,8 +91,8 @@ fn run<L: Ledger>(problem: &Problem, state: &mut State, blank: Blank) -> Option<
     None
 }
 
-// The corner of these places, told by two lists that are empty yet.
-fn tell(places: &[Place], mut basic: Vec<u32>, mut high: Vec<u32>) -> Result<Corner, Memory>
+/// The corner of these places, told by two lists that are empty yet.
+pub fn tell(places: &[Place], mut basic: Vec<u32>, mut high: Vec<u32>) -> Result<Corner, Memory>
     requires few { length places.now < 2 ^ 32 }
     requires basic { basic.items ≡ [] }
     requires high { high.items ≡ [] }

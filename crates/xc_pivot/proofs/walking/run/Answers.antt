@@ -71,8 +71,11 @@ returns-clause-none g c =
     let turn = c.loop-choice.invariant.turn in
     let none = c.in_default.ensures.none turn.corner turn.factors turn.at in
     record {
+      shaped = c.loop-choice.invariant.shaped;
       corner = turn.corner;
-      placed = turn.at.placed;
+      factors = turn.factors;
+      at = turn.at;
+      none = none;
       last = is_last problem w turn.corner turn.factors turn.at.solved c.requires.fits none c.loop-choice.turns turn.reached;
       nothing = nothing_at_all problem w turn.corner turn.factors turn.at.solved c.requires.fits none c.loop-choice.turns turn.reached turn.before;
     }

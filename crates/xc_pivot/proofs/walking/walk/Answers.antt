@@ -6,7 +6,7 @@ use Rattle.xc_corners.specs.WholeNumbers.{whole}
 use Rattle.xc_corners.specs.declared.problem.Problem.{Problem}
 use Rattle.xc_frac.specs.declared.wide.Wide.{Wide}
 use Rattle.xc_pivot.specs.States.{ArePlaces}
-use Rattle.xc_pivot.specs.Walks.{TellsCorner, IsLastCorner, IsTooWideAt, NothingPasses, IfLast, IfTooWide, EndsAtLast, EndsTooWide}
+use Rattle.xc_pivot.specs.Walks.{TellsCorner, IsLastCorner, IsTooWideAt, NothingPasses, IfLast, IfTooWide, EndsTooWide}
 use Rattle.xc_pivot.specs.declared.types.Place.{Place}
 use Rattle.xc_pivot.proofs.walking.walk.Goals as goal
 use Rattle.xc_pivot.proofs.walking.walk.Goals.{in-None, in-Some}
@@ -15,8 +15,8 @@ module _ (problem : Problem) (ps qs : List Place) (same : ps ≡ qs) (lists : Co
   told : (x : Corner) → ArePlaces (length problem.rows) (length problem.ranges) x qs → x ≡ corner_of lists
   told x placed = sym (tells (length problem.rows) (length problem.ranges) x (subst (λ zs. ArePlaces (length problem.rows) (length problem.ranges) x zs) (sym same) placed))
 
-  last_told : EndsAtLast problem qs → IsLastCorner problem lists
-  last_told end = subst (λ x. IsLast (whole problem) x) (told end.corner end.placed) end.last
+  last_told : (x : Corner) → ArePlaces (length problem.rows) (length problem.ranges) x qs → IsLast (whole problem) x → IsLastCorner problem lists
+  last_told x placed last = subst (λ y. IsLast (whole problem) y) (told x placed) last
 
   wide_told : (v : Wide) → EndsTooWide problem qs v → IsTooWideAt problem lists v
   wide_told v end = subst (λ x. IsReached (whole problem) x × PassesAt problem x v) (told end.corner end.placed) (end.reached, end.passes)
@@ -24,7 +24,7 @@ module _ (problem : Problem) (ps qs : List Place) (same : ps ≡ qs) (lists : Co
 pub returns-clause-last : goal.returns-clause-last
 returns-clause-last c = elim c.match-end.branch [
   | in-None w ↦ subst (λ r. IfLast (IsLastCorner c.args.problem.now) r) (sym w.result-is)
-      (last_told c.args.problem.now c.as_slice.result.now c.to_the_end-end.new.state.places.items c.as_slice.ensures.value c.in_ok-corner.corner c.in_ok-corner.ensures w.in-None.ensures.none)
+      (last_told c.args.problem.now c.as_slice.result.now c.to_the_end-end.new.state.places.items c.as_slice.ensures.value c.in_ok-corner.corner c.in_ok-corner.ensures w.in-None.ensures.none.corner w.in-None.ensures.none.at.placed w.in-None.ensures.none.last)
   | in-Some w ↦ subst (λ r. IfLast (IsLastCorner c.args.problem.now) r) (sym w.result-is) tt
 ]
 

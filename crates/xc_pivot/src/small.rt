@@ -67,7 +67,12 @@ fn value_with(problem: &Problem, state: &State, variable: u32, small: Frac) -> R
 }
 
 /// Puts the values of all ranges with the small number.
-pub fn put_values(problem: &Problem, state: &State, small: Frac, values: &mut [Frac]) -> Result<(), Wide>
+pub fn put_values(
+    problem: &Problem,
+    state: &State,
+    small: Frac,
+    values: &mut [Frac],
+) -> Result<(), Wide>
     requires problem { IsProblem problem.now }
     requires few { IsSmallProblem problem.now }
     requires shaped { IsShaped problem.now state.now }

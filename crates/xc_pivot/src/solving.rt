@@ -80,12 +80,7 @@ fn empty_lists(alloc: Global, problem: &Problem) -> Result<Multipliers, Memory>
 }
 
 // The corner of the state, told by two lists that are empty yet, and the operation that passes there.
-fn stopped(
-    state: &State,
-    basic: Vec<u32>,
-    high: Vec<u32>,
-    wide: Wide,
-) -> Result<Outcome, Memory>
+fn stopped(state: &State, basic: Vec<u32>, high: Vec<u32>, wide: Wide) -> Result<Outcome, Memory>
     requires few { length state.now.places.items < 2 ^ 32 }
     requires basic { basic.items ≡ [] }
     requires high { high.items ≡ [] }

@@ -64,7 +64,12 @@ fn fill(table: &mut Tableau, rows: u32, columns: u32, text: &str)
     ensures columns { table.new.columns ≡ columns }
 {
     for row in 0..rows {
-        fill_row(table, row, columns, text.lines().nth(row as usize).unwrap_or(""));
+        fill_row(
+            table,
+            row,
+            columns,
+            text.lines().nth(row as usize).unwrap_or(""),
+        );
     }
 }
 

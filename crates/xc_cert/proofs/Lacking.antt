@@ -1,5 +1,5 @@
 -- Bytes that do not stand in a fraction's text.
-use Rattle.std.proofs.Common.{◌≡◌, ℕ, suc, ◌<◌, ◌^◌, ℤ, pos, negsuc, Bool, true, false, cond, [], ◌++◌, arith, lit<}
+use Rattle.std.proofs.Common.{ℕ, suc, ◌<◌, ◌^◌, ℤ, pos, negsuc, Bool, true, false, cond, [], ◌++◌, arith, lit<}
 use Rattle.std.specs.Prelude.{◌==◌, decimal, unsigned_abs, codes}
 use Rattle.std.specs.Fmt.{signed_decimal}
 use Rattle.xc_decimal.specs.Spelling.{spelling, denominator_text}

@@ -1,5 +1,5 @@
 -- The lists of a refutation that multipliers of the forest give ascend, and name what is the component's own.
-use Rattle.std.proofs.Common.{◌≡◌, ◌≢◌, ℕ, zero, suc, ◌+◌, ◌<◌, ◌≤◌, Bool, true, false, ◌==◌, if◌then◌else◌, ℤ, pos, negsuc, ◌<ℤ◌, List, [], ◌∷◌, length, map, get_or, Option, Some, None, is_some, inl, inr, ◌⊎◌, refl, sym, ap, ap₂, subst, ◌∙◌, arith, add-one, true≢false}
+use Rattle.std.proofs.Common.{◌≡◌, ◌≢◌, ℕ, zero, suc, ◌+◌, ◌<◌, ◌≤◌, Bool, true, false, ◌==◌, if◌then◌else◌, ℤ, pos, negsuc, ◌<ℤ◌, List, [], ◌∷◌, length, map, get_or, Option, Some, None, inl, inr, ◌⊎◌, refl, sym, ap, ap₂, subst, ◌∙◌, arith, add-one, true≢false}
 use Rattle.std.proofs.lemmas.Bool.{eq-eqb, eqb-true, ne_eqb}
 use Rattle.std.proofs.lemmas.Int.{ints}
 use Rattle.std.proofs.lemmas.List.Sorted.{sum_by-IsPermutation, IsNonDecreasingBy-from_sort}
@@ -16,15 +16,14 @@ use Rattle.xc_joint.specs.Steps.Multiplied.{IsContradicted, IsMadeOf, IsListed, 
 use Rattle.xc_joint.specs.Steps.OneForest.{AreEach, IsSign, IsSpanOf}
 use Rattle.xc_joint.specs.declared.one_forest.Span.{Span}
 use Rattle.xc_joint.proofs.Cancelling.{IsPlaced}
-use Rattle.xc_joint.proofs.Each.{each_at, each_length, other_default}
 use Rattle.xc_joint.proofs.ForestRanges.{first_in, known_in}
 use Rattle.xc_interval.specs.declared.interval.Interval.{Interval}
 use Rattle.xc_model.specs.Ratio.{Ratio}
 use Rattle.xc_lists.proofs.Members.{is_in_at, once_of_ascending}
-use Rattle.xc_system.specs.Kept.{Multipliers, IsRefutation, IsAscending}
+use Rattle.xc_system.specs.Kept.{Multipliers, IsRefutation}
 use Rattle.xc_lists.specs.Members.{IsIn, IsOnce}
 use Rattle.xc_system.specs.Refutations.{IsKnown, IsKnownIn}
-use Rattle.xc_system.specs.Systems.{Constraints, facts_of, point_at, range_at}
+use Rattle.xc_system.specs.Systems.{Constraints, facts_of, range_at}
 use Rattle.xc_system.specs.declared.types.Component.{Component}
 
 -- ---- how often a number stands in a list

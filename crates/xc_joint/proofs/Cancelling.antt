@@ -1,5 +1,5 @@
 -- In the refutation that multipliers of the forest give no value counts.
-use Rattle.std.proofs.Common.{◌≡◌, ◌≢◌, ℕ, zero, suc, ◌+◌, ◌*◌, ◌<◌, Bool, true, false, cond, ◌==◌, if◌then◌else◌, ℤ, pos, negsuc, neg_ℤ, ◌+ℤ◌, ◌*ℤ◌, List, [], ◌∷◌, length, map, get_or, inl, inr, ◌⊎◌, refl, sym, ap, ap₂, subst, ◌∙◌, arith}
+use Rattle.std.proofs.Common.{◌≡◌, ◌≢◌, ℕ, zero, suc, ◌+◌, ◌*◌, ◌<◌, Bool, true, false, ◌==◌, if◌then◌else◌, ℤ, pos, negsuc, neg_ℤ, ◌+ℤ◌, ◌*ℤ◌, List, [], ◌∷◌, length, map, get_or, inl, inr, refl, sym, ap, subst, ◌∙◌, arith}
 use Rattle.std.proofs.lemmas.Bool.{eq-eqb, eqb-true, ne_eqb, false≢true}
 use Rattle.std.specs.List.Sorted.{IsStrictlySortedBy}
 use Rattle.std.specs.Ordering.{nat_cmp}
@@ -7,7 +7,7 @@ use Rattle.std.proofs.lemmas.Int.{ints}
 use Rattle.std.proofs.lemmas.List.Sorted.{sum_by-IsPermutation}
 use Rattle.std.proofs.lemmas.List.Sums.{sum_by-cons}
 use Rattle.std.specs.Prelude.{sum_by}
-use Rattle.xc_forest.specs.Forests.{IsUnit, Contradicts, row_sum, row_at, turn, sum_below, multiplier_at, unit_at as place_unit}
+use Rattle.xc_forest.specs.Forests.{IsUnit, row_sum, row_at, turn, sum_below, multiplier_at, unit_at as place_unit}
 use Rattle.xc_joint.specs.Small.{closed_pairs}
 use Rattle.xc_joint.specs.Steps.Multiplied.{IsContradicted, IsMadeOf, IsListed, IsSigned, lows_of, highs_of, bindings_of}
 use Rattle.xc_joint.specs.Steps.OneForest.{AreEach, IsSign, IsSignedPlace, IsRangeOf, IsRowOf, IsSpanOf}
@@ -18,7 +18,7 @@ use Rattle.xc_joint.proofs.ForestRanges.{first_in, map_size}
 use Rattle.xc_joint.proofs.ForestRows.{same_place}
 use Rattle.xc_joint.proofs.Signs.{fraction_one, fraction_minus}
 use Rattle.xc_joint.proofs.Sizes.{place_of}
-use Rattle.xc_model.specs.Fraction.{Fraction, IsNumberOver, whole, sum_of, difference_of, product_of}
+use Rattle.xc_model.specs.Fraction.{Fraction, IsNumberOver, whole, difference_of, product_of}
 use Rattle.xc_model.specs.Ratio.{Ratio, fraction_of}
 use Rattle.xc_model.proofs.NumbersOver.{sum_number}
 use Rattle.xc_system.specs.Kept.{Multipliers}

@@ -1,5 +1,5 @@
 -- The two tightest ends of an empty point contradict its component.
-use Rattle.std.proofs.Common.{◌≡◌, ◌<◌, ◌||◌, ◌++◌, ◌⊎◌, ℕ, Bool, true, false, List, [], ◌∷◌, map, Option, Some, None, Ok, Err, inl, inr, pos, refl, sym, ap, subst, ◌∙◌, arith}
+use Rattle.std.proofs.Common.{◌≡◌, ◌<◌, ◌||◌, ◌++◌, ◌⊎◌, ℕ, Bool, true, false, List, [], ◌∷◌, Option, Some, None, Ok, Err, inl, inr, pos, refl, sym, ap, subst, ◌∙◌, arith}
 use Rattle.std.proofs.lemmas.Int.{ints}
 use Rattle.std.proofs.lemmas.List.Elements.{All-from_recursion}
 use Rattle.std.specs.Option.{option_map_or}
@@ -27,7 +27,6 @@ use Rattle.xc_system.specs.Refutations.{IsContradictionOf, IsKnownIn, IsShort, c
 use Rattle.xc_system.specs.Solutions.{IsNegative, IsZero}
 use Rattle.xc_system.specs.Spots.{IsFirstTightest, high_end, low_end}
 use Rattle.xc_system.specs.Systems.{Constraints, facts_of, point_at, range_at}
-use Rattle.xc_system.specs.declared.types.Bound.{Bound}
 use Rattle.xc_system.specs.declared.types.Component.{Component}
 use Rattle.xc_model.proofs.Signs.{negative_same, zero_same}
 use Rattle.xc_verify.specs.Infeasible.{constant_terms}

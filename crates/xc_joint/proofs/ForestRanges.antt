@@ -1,14 +1,13 @@
 -- The ranges of the forest of a component: some value lies in each, and their ends are ends of facts.
-use Rattle.std.proofs.Common.{◌≡◌, ℕ, zero, suc, ◌<◌, true, false, Option, pos, List, [], ◌∷◌, ◌++◌, length, map, get_or, Some, None, inl, inr, refl, sym, ap, subst, ◌∙◌, arith}
+use Rattle.std.proofs.Common.{◌≡◌, ℕ, zero, suc, ◌<◌, Option, List, [], ◌∷◌, ◌++◌, length, map, get_or, Some, None, inl, inr, refl, sym, ap, subst, ◌∙◌, arith}
 use Rattle.std.specs.Prelude.{IsSome}
 use Rattle.xc_interval.specs.Ends.{value_of, end_at}
-use Rattle.xc_interval.specs.Intervals.{frac_parts, pairs_of, numbers_of, HasNoNumber, HasNoPair, HasNumber, IsPast, IsBefore}
+use Rattle.xc_interval.specs.Intervals.{numbers_of, HasNoNumber, HasNumber, IsPast, IsBefore}
 use Rattle.xc_interval.specs.Ranges.{AllKnown, LiesInAll, IsRangeOf as IsRange}
 use Rattle.xc_interval.specs.declared.interval.Interval.{Interval}
 use Rattle.xc_interval.specs.Laws.{EndsTell, RangesHaveNumbers}
-use Rattle.xc_model.specs.Fraction.{Fraction, SameNumber, IsBelow, whole}
+use Rattle.xc_model.specs.Fraction.{Fraction, SameNumber, IsBelow}
 use Rattle.xc_model.specs.Parts.{Parts}
-use Rattle.xc_model.proofs.Numbers.{same-refl}
 use Rattle.xc_model.specs.Ratio.{Ratio, fraction_of}
 use Rattle.xc_interval.specs.declared.range.Range.{Range}
 use Rattle.xc_interval.specs.declared.range.Range.TheVariants as range

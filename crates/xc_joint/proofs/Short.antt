@@ -1,13 +1,13 @@
 -- The constant of the refutation of a narrow forest falls short of 0.
-use Rattle.std.proofs.Common.{◌≡◌, ℕ, zero, suc, ◌+◌, ◌-◌, ◌*◌, ◌/◌, ◌<◌, ◌≤◌, ◌||◌, ◌⊎◌, Bool, true, false, Option, Some, None, List, [], ◌∷◌, length, map, get_or, ℤ, pos, negsuc, neg_ℤ, ◌+ℤ◌, ◌-ℤ◌, ◌*ℤ◌, ◌<ℤ◌, inl, inr, refl, sym, ap, subst, ◌∙◌, arith}
+use Rattle.std.proofs.Common.{◌≡◌, ℕ, zero, suc, ◌+◌, ◌-◌, ◌*◌, ◌/◌, ◌<◌, ◌≤◌, ◌||◌, ◌⊎◌, Bool, true, false, Option, Some, None, List, [], ◌∷◌, length, map, get_or, ℤ, pos, negsuc, neg_ℤ, ◌+ℤ◌, ◌-ℤ◌, ◌*ℤ◌, inl, inr, refl, sym, ap, subst, ◌∙◌, arith}
 use Rattle.std.specs.List.{list_any}
 use Rattle.std.specs.List.Sorted.{IsPermutation}
 use Rattle.std.specs.Option.{option_map_or}
-use Rattle.std.specs.Prelude.{sum_by, IsTrue, slice_get, if◌then◌else◌}
+use Rattle.std.specs.Prelude.{sum_by, slice_get, if◌then◌else◌}
 use Rattle.std.proofs.Math.Nat.{mul-pos, one-dvd}
 use Rattle.std.proofs.lemmas.Int.{ints}
 use Rattle.std.proofs.lemmas.List.{length-map}
-use Rattle.std.proofs.lemmas.List.Sorted.{list_any-IsPermutation, sum_by-IsPermutation}
+use Rattle.std.proofs.lemmas.List.Sorted.{sum_by-IsPermutation}
 use Rattle.std.proofs.lemmas.Nat.Gcd.{dvd_trans}
 use Rattle.std.proofs.lemmas.Option.{slice_get_cases}
 use Prim.Native.Nat.{◌∣◌}
@@ -15,25 +15,22 @@ use native.Mathlib.Nat.{dvd-mul_left, dvd-mul_right, mul-div_cancel'}
 use Rattle.xc_forest.specs.Forests.{sum_below, parts_below, multiplier_at, named_end, range_at as span_at}
 use Rattle.xc_forest.specs.Laws.{SumsAreOver}
 use Rattle.xc_interval.specs.Ends.{is_open, value_of}
-use Rattle.xc_interval.specs.declared.ends.End.{End}
-use Rattle.xc_interval.specs.declared.ends.End.TheVariants.{Closed, Open}
 use Rattle.xc_interval.specs.declared.interval.Interval.{Interval}
 use Rattle.xc_joint.specs.Small.{closed_pairs, low_pair, high_pair}
-use Rattle.xc_joint.specs.Steps.Multiplied.{is_minus, is_plus, highs_of, lows_of, IsContradicted, IsListed, IsMadeOf}
+use Rattle.xc_joint.specs.Steps.Multiplied.{highs_of, lows_of, IsContradicted, IsListed, IsMadeOf}
 use Rattle.xc_joint.specs.Steps.OneForest.{AreEach, IsRangeOf}
 use Rattle.xc_joint.specs.declared.one_forest.Span.{Span}
 use Rattle.xc_joint.proofs.Between.{same_over}
 use Rattle.xc_joint.proofs.Disjoint.{more_sum}
-use Rattle.xc_joint.proofs.Each.{each_length}
 use Rattle.xc_joint.proofs.Evaluated.{difference_over, number_below}
 use Rattle.xc_joint.proofs.PartValues.{signed_product}
-use Rattle.xc_model.specs.Fraction.{Fraction, IsBelow, IsNumberOver, SameNumber, difference_of, neg_of, product_of, whole}
-use Rattle.xc_model.specs.Parts.{Parts, WholeParts, ArePartsOver, zero_parts}
+use Rattle.xc_model.specs.Fraction.{Fraction, IsNumberOver, neg_of, product_of, whole}
+use Rattle.xc_model.specs.Parts.{Parts, WholeParts, ArePartsOver}
 use Rattle.xc_model.specs.Ratio.{Ratio, fraction_of}
 use Rattle.xc_model.proofs.Integers.{neg-mul, ring}
 use Rattle.xc_model.proofs.NumbersOver.{below_number, equal_number, number_over-same, sum_number, zero_over}
 use Rattle.xc_system.specs.Kept.{Multipliers}
-use Rattle.xc_system.specs.Refutations.{constant, high_at, is_high_open, is_low_open, lists_open, low_at, total, IsShort}
+use Rattle.xc_system.specs.Refutations.{constant, high_at, is_high_open, is_low_open, low_at, total, IsShort}
 use Rattle.xc_system.specs.Systems.{Constraints, range_at}
 use Rattle.xc_system.specs.declared.types.Bound.{Bound}
 use Rattle.xc_system.specs.declared.types.Component.{Component}

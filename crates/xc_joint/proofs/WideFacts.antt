@@ -1,9 +1,7 @@
 -- The least wide fact.
 use Rattle.std.proofs.Common.{◌≡◌, ◌<◌, ◌≤◌, ◌+◌, ◌⊎◌, ℕ, List, length, map, get_or, slice_index, min, Option, Some, None, inl, inr, sym, ap, subst, ◌∙◌, arith}
-use Rattle.std.proofs.lemmas.List.{get_or-map, length-map}
-use Rattle.std.proofs.lemmas.Option.{slice_get_cases}
-use Rattle.std.specs.Option.{option_map_or}
-use Rattle.std.specs.Prelude.{IsTrue, slice_get}
+use Rattle.std.proofs.lemmas.List.{length-map}
+use Rattle.std.specs.Prelude.{IsTrue}
 use Rattle.xc_joint.proofs.Placed.{owner}
 use Rattle.xc_joint.proofs.EmptyPoints.{before_first, none_in}
 use Rattle.xc_joint.specs.Causes.{IsWideOf}

@@ -3,11 +3,6 @@
 use Rattle.std.proofs.Common.{◌≡◌, ℕ, suc, ◌+◌, ◌-◌, ◌≤◌, ◌<◌, List, [], ◌∷◌, ◌++◌, map, length, cond, eqb, ◌⊎◌, inl, inr, refl, sym, ap, ap₂, ◌∙◌, arith, subst, Bool, true, false}
 use Rattle.std.specs.Prelude.{nat_le}
 use Rattle.std.proofs.lemmas.Bool.{cases_eq, eq-eqb, ne_eqb, le-leb, lt-leb}
-use Rattle.std.proofs.lemmas.Bool.Decides.{nat_tests}
-use Rattle.std.specs.List.{AllByRecursion}
-use Rattle.std.specs.List.Sorted.{IsStrictlySortedBy}
-use Rattle.std.specs.Ordering.{nat_cmp}
-use Rattle.std.specs.declared.cmp.Ordering.TheVariants.{Less}
 use Rattle.xc_system.proofs.Counts.{sum_same, sum_plus, sum_zero, removed, removed_sum, removed_distinct, thin_from_count, count_from_thin}
 use Rattle.xc_system.proofs.Graphs.{sum_on, joins, IsThinBy, edges, IsConnected, IsListingOf, IsSimple}
 use Rattle.xc_system.proofs.Links.{is_in, linked_sym, closed, owned}

@@ -1,9 +1,9 @@
 -- What terms add up to, as numbers.
-use Rattle.std.proofs.Common.{◌≡◌, ◌==◌, ℕ, Bool, true, false, cond, List, [], ◌∷◌, ◌++◌, Option, Some, None, Ok, Err, map, filter, ℤ, pos, refl, sym, ap, subst, ◌∙◌, arith}
+use Rattle.std.proofs.Common.{◌≡◌, ◌==◌, ℕ, Bool, true, false, cond, List, [], ◌∷◌, ◌++◌, Option, Some, None, Ok, Err, map, filter, pos, refl, sym, subst, arith}
 use Rattle.std.proofs.lemmas.Int.{ints}
 use Rattle.std.specs.List.{cons_option}
 use Rattle.std.specs.Option.{option_map, option_map_or}
-use Rattle.std.specs.Prelude.{◌*ℤ◌, ◌<ℤ◌, slice_get}
+use Rattle.std.specs.Prelude.{slice_get}
 use Rattle.xc_frac.specs.declared.wide.Wide.{Wide}
 use Rattle.xc_interval.specs.Ends.{value_of}
 use Rattle.xc_interval.specs.declared.interval.Interval.{Interval}
@@ -14,7 +14,7 @@ use Rattle.xc_model.specs.Fraction.{Fraction, SameNumber, whole, neg_of, sum_of,
 use Rattle.xc_model.specs.Ratio.{Ratio, fraction_of}
 use Rattle.xc_system.specs.Kept.{Multipliers}
 use Rattle.xc_system.specs.Refutations.{total, unit_at, low_at, high_at, coefficient, constant}
-use Rattle.xc_system.specs.Solutions.{IsZero, IsNegative, weighed}
+use Rattle.xc_system.specs.Solutions.{weighed}
 use Rattle.xc_system.specs.Systems.{Constraints, equation_at, point_at, range_at}
 use Rattle.xc_system.specs.declared.types.Bound.{Bound}
 use Rattle.xc_system.specs.declared.types.Entry.{Entry}

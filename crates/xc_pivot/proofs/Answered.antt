@@ -1,11 +1,10 @@
 -- What the last corner answers.
-use Rattle.std.proofs.Common.{◌≡◌, ℕ, zero, suc, ◌+◌, ◌<◌, Bool, List, Ok, Err, length, ◌⊎◌, inl, inr, ⊎_elim, refl, sym, subst, arith}
+use Rattle.std.proofs.Common.{◌≡◌, ℕ, zero, suc, ◌+◌, Bool, List, Ok, Err, length, inl, inr, ⊎_elim, refl, sym, subst}
 use Rattle.std.specs.Prelude.{Result, IfOk}
-use Rattle.xc_corners.specs.Choices.{Leaves, Exchange, Exchanges, first, IsReached, IsReachedBy, IsFeasible, IsConflict}
+use Rattle.xc_corners.specs.Choices.{Leaves, Exchange, Exchanges, first, IsReached, IsFeasible, IsConflict}
 use Rattle.xc_corners.specs.Corners.{Corner, Factors, corner_of, IsSolvedForm}
-use Rattle.xc_corners.specs.Ending.{IsSmallNumber, IsLeastQuotient, StandsInSmall, StandsInValue, StandsInValues}
+use Rattle.xc_corners.specs.Ending.{IsSmallNumber, StandsInSmall, StandsInValue, StandsInValues}
 use Rattle.xc_corners.specs.LastOperations.{IsFeasibleAt, PassesInSolving, StandsInSolving, in_walk, in_small, in_values}
-use Rattle.xc_corners.specs.Operations.{PassesAt}
 use Rattle.xc_corners.specs.Problems.{WholeProblem, IsWholeProblem}
 use Rattle.xc_corners.specs.WholeNumbers.{whole}
 use Rattle.xc_corners.specs.declared.multipliers.Multipliers.{Multipliers}
@@ -18,7 +17,7 @@ use Rattle.xc_frac.specs.declared.wide.Op.TheVariants.{Div}
 use Rattle.xc_corners.specs.Operations.{Gives}
 use Rattle.xc_model.specs.Ratio.{Ratio}
 use Rattle.xc_tableau.proofs.Exchanging.{over_one, quotient_one}
-use Rattle.xc_pivot.specs.SmallValues.{SmallStays, ValuesStay, AreDone, PassesFeasible}
+use Rattle.xc_pivot.specs.SmallValues.{SmallStays, ValuesStay, PassesFeasible}
 use Rattle.xc_pivot.specs.Solving.{NothingStops, StopsAt, IfFeasible, IfInfeasible, IfStopped}
 use Rattle.xc_pivot.specs.States.{ArePlaces, HasNoChoice}
 use Rattle.xc_pivot.specs.Walks.{NothingPasses, IsStop}

@@ -1,8 +1,8 @@
 -- The least quotient, one side of a range after another.
-use Rattle.std.proofs.Common.{◌≡◌, ◌≢◌, ℕ, zero, suc, ◌+◌, ◌<◌, ◌≤◌, Bool, true, false, ◌||◌, ◌==◌, ℤ, pos, ◌*ℤ◌, ◌<ℤ◌, length, Some, None, Ok, Err, ◌⊎◌, inl, inr, refl, sym, ap, subst, ◌∙◌, arith}
+use Rattle.std.proofs.Common.{◌≡◌, ℕ, ◌+◌, ◌<◌, ◌≤◌, Bool, true, false, ◌||◌, ◌==◌, length, Some, None, Ok, Err, ◌⊎◌, inl, inr, refl, sym, subst, arith}
 use Rattle.std.specs.Prelude.{Option, Result, IfOk, OnOk, nat_lt}
 use Rattle.std.proofs.lemmas.Int.{ints}
-use Rattle.std.proofs.lemmas.Bool.{cases_Bool, cases_lt, false≢true, ltb-true, lt-ltb, le-ltb, eqb-true, eq-eqb}
+use Rattle.std.proofs.lemmas.Bool.{cases_lt, false≢true, ltb-true, lt-ltb, eqb-true, eq-eqb}
 use Rattle.xc_corners.specs.Corners.{Corner, Factors}
 use Rattle.xc_corners.specs.Ending.{IsTight, IsQuotientAt, in_quotient}
 use Rattle.xc_corners.specs.Problems.{WholeProblem}
@@ -10,7 +10,7 @@ use Rattle.xc_frac.specs.declared.wide.Wide.{Wide}
 use Rattle.xc_model.specs.Fraction.{Fraction, IsBelow}
 use Rattle.xc_model.specs.Ratio.{Ratio, fraction_of}
 use Rattle.xc_model.proofs.Numbers.{below-trans}
-use Rattle.xc_pivot.specs.Quotients.{IsLesser, with_seen, below_seen, IsAnswerAt, QuotientStays, PassesQuotient, IsOne, IsLeastOf, SeenStay, PassesSmall}
+use Rattle.xc_pivot.specs.Quotients.{IsLesser, with_seen, below_seen, IsAnswerAt, QuotientStays, PassesQuotient, IsLeastOf, SeenStay, PassesSmall}
 
 not_itself : (x : Fraction) → ¬ IsBelow x x
 not_itself x h = omega (arith, ints, h.cross)

@@ -3,7 +3,7 @@ use Rattle.std.proofs.Common.{◌≡◌, ◌≢◌, ℕ, ◌*◌, ◌<◌, Bool,
 use Rattle.std.specs.Prelude.{not, Option, Result, IfOk, IfErr, OnOk}
 use Rattle.std.proofs.lemmas.Int.{ints}
 use Rattle.xc_corners.specs.Corners.{Corner, Factors, value as value_at}
-use Rattle.xc_corners.specs.Ending.{IsTightAt, margin_taken, IsLimitPart, IsTight, IsMargin, IsQuotientAt, StandsInQuotient, margin, divided}
+use Rattle.xc_corners.specs.Ending.{IsTightAt, margin_taken, IsLimitPart, IsTight, IsMargin, IsQuotientAt, margin, divided}
 use Rattle.xc_corners.specs.Operations.{operation, Gives, IsValuePart, passed_bound}
 use Rattle.xc_corners.specs.Pairs.{times}
 use Rattle.xc_corners.specs.Problems.{WholeProblem}
@@ -12,14 +12,14 @@ use Rattle.xc_frac.specs.Passes.{Passes}
 use Rattle.xc_frac.specs.declared.delta.Delta.{Delta}
 use Rattle.xc_frac.specs.declared.wide.Op.TheVariants.{Sub, Div}
 use Rattle.xc_frac.specs.declared.wide.Wide.{Wide}
-use Rattle.xc_model.specs.Fraction.{IsBelow, IsNumberOver}
+use Rattle.xc_model.specs.Fraction.{IsBelow}
 use Rattle.xc_model.specs.Parts.{WholeParts}
 use Rattle.xc_model.specs.Ratio.{Ratio, fraction_of}
 use Rattle.xc_model.proofs.Integers.{mul_positive, neg-mul}
 use Rattle.xc_model.proofs.Numbers.{den_positive}
 use Rattle.xc_model.proofs.NumbersOver.{over_number, below_number}
 use Rattle.xc_tableau.proofs.Exchanging.{over_one, quotient_one, quotient_stays}
-use Rattle.xc_pivot.specs.Deltas.{of_part, GivesEach, ArePartsOf, StaysEach, PassesOne}
+use Rattle.xc_pivot.specs.Deltas.{of_part, GivesEach, ArePartsOf, PassesOne}
 use Rattle.xc_pivot.specs.Quotients.{mixed, exceeds_each, IsApart, AreMargins, IsQuotientOf, IsAnswerOf, MarginsStay, PassesMargins, PassesDivision, IsAnswerAt, QuotientStays, PassesQuotient}
 use Rattle.xc_pivot.proofs.Beside.{bound_times}
 use Rattle.xc_pivot.proofs.Operands.{difference_one}

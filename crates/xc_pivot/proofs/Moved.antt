@@ -1,8 +1,8 @@
 -- Whichever solved form of a corner is taken, the same operations stand on the way to the values.
-use Rattle.std.proofs.Common.{◌≡◌, ℕ, ◌<◌, ◌+◌, Bool, true, false, ℤ, pos, ◌*ℤ◌, ◌<ℤ◌, length, inl, inr, sym, ap, ◌∙◌, arith}
+use Rattle.std.proofs.Common.{◌≡◌, ℕ, ◌<◌, Bool, true, false, ℤ, pos, ◌*ℤ◌, ◌<ℤ◌, length, inl, inr, ap, arith}
 use Rattle.std.proofs.lemmas.Int.{ints}
 use Rattle.xc_corners.specs.Corners.{variables, Corner, Factors, IsSolvedForm, value}
-use Rattle.xc_corners.specs.Ending.{IsTightAt, IsTight, IsMargin, IsQuotientAt, IsLeastQuotient, IsHalf, IsSmallNumber, IsTinyProduct, StandsInQuotient, margin, divided, StandsInSmall, in_quotient, halved, StandsInValue, tiny_times, real_added}
+use Rattle.xc_corners.specs.Ending.{IsTight, IsMargin, IsQuotientAt, IsLeastQuotient, IsSmallNumber, StandsInQuotient, margin, divided, StandsInSmall, in_quotient, halved, StandsInValue, tiny_times, real_added}
 use Rattle.xc_corners.specs.Operations.{passed_bound}
 use Rattle.xc_corners.specs.Pairs.{times}
 use Rattle.xc_corners.specs.Problems.{WholeProblem}

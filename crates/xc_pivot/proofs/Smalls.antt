@@ -1,12 +1,12 @@
 -- The small number and the values with it, by what was worked out.
-use Rattle.std.proofs.Common.{◌≡◌, ℕ, ◌*◌, ◌<◌, Bool, true, false, pos, length, Some, None, Ok, Err, inl, inr, refl, sym, subst, ◌∙◌, arith}
+use Rattle.std.proofs.Common.{◌≡◌, ℕ, ◌*◌, ◌<◌, Bool, true, false, length, Some, None, Ok, Err, inl, inr, refl, sym, subst, arith}
 use Rattle.std.specs.Prelude.{Option, Result, IfOk, IfErr, OnOk, OnErr}
 use Rattle.std.specs.declared.cmp.Ordering.{Ordering}
 use Rattle.std.specs.declared.cmp.Ordering.TheVariants.{Less, Equal, Greater}
 use Rattle.std.proofs.lemmas.Bool.{lt-ltb}
 use Rattle.xc_corners.specs.Corners.{Corner, Factors, value as value_at}
-use Rattle.xc_corners.specs.Ending.{IsTwo, IsTight, IsLeastQuotient, IsSmallNumber, IsTinyProduct, IsValueWith, StandsInSmall, in_quotient, halved, StandsInValue, tiny_times, real_added}
-use Rattle.xc_corners.specs.Operations.{operation, Gives, IsValuePart}
+use Rattle.xc_corners.specs.Ending.{IsTwo, IsLeastQuotient, IsSmallNumber, IsTinyProduct, IsValueWith, in_quotient, halved, tiny_times, real_added}
+use Rattle.xc_corners.specs.Operations.{operation, Gives}
 use Rattle.xc_corners.specs.Problems.{WholeProblem}
 use Rattle.xc_frac.specs.Passes.{Passes}
 use Rattle.xc_frac.specs.declared.delta.Delta.{Delta}
@@ -18,7 +18,7 @@ use Rattle.xc_model.specs.Ratio.{Ratio, fraction_of}
 use Rattle.xc_model.proofs.LowestTerms.{one_lowest}
 use Rattle.xc_model.proofs.Orders.{number_total}
 use Rattle.xc_tableau.proofs.Exchanging.{over_one, product_one, product_stays, quotient_stays, if_ok, if_passes}
-use Rattle.xc_pivot.specs.Deltas.{of_part, ArePartsOf}
+use Rattle.xc_pivot.specs.Deltas.{ArePartsOf}
 use Rattle.xc_pivot.specs.Quotients.{below_seen, IsLeastOf, SeenStay, PassesSmall}
 use Rattle.xc_pivot.specs.SmallValues.{IsHalfOf, PassesHalf, SmallStays, ValueStays, PassesValue}
 use Rattle.xc_pivot.proofs.Margins.{quotient_same}

@@ -1,5 +1,5 @@
 -- How far the quotients at a corner are gone through.
-use Rattle.std.specs.Prelude.{◌≡◌, ◌⊎◌, ℕ, ◌==◌, ◌<◌, ◌&&◌, ◌||◌, not, nat_lt, Bool, true, false, Option, Some, None, length, IsTrue}
+use Rattle.std.specs.Prelude.{◌≡◌, ◌⊎◌, ℕ, ◌==◌, ◌<◌, ◌||◌, not, nat_lt, Bool, true, false, Option, Some, None, length}
 use Rattle.xc_corners.specs.Corners.{Corner, Factors}
 use Rattle.xc_corners.specs.Ending.{IsTight, IsQuotientAt, StandsInQuotient, StandsInSmall}
 use Rattle.xc_corners.specs.Operations.{Gives}

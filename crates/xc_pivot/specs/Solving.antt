@@ -1,5 +1,5 @@
 -- What solving tells of a problem.
-use Rattle.std.specs.Prelude.{◌≡◌, ℕ, Bool, List}
+use Rattle.std.specs.Prelude.{ℕ, Bool, List}
 use Rattle.xc_corners.specs.Answers.{Solves, Contradicts}
 use Rattle.xc_corners.specs.Choices.{IsReached}
 use Rattle.xc_corners.specs.Conflicts.{AreOfConflict}

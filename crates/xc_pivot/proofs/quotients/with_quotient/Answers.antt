@@ -1,4 +1,4 @@
-use Rattle.std.proofs.Common.{arith, subst, sym, ◌<◌, length}
+use Rattle.std.proofs.Common.{subst, sym, ◌<◌}
 use Rattle.xc_corners.specs.WholeNumbers.{whole}
 use Rattle.xc_pivot.proofs.Leasts.{merged, with_stay, passes_small}
 use Rattle.xc_pivot.proofs.quotients.with_quotient.Goals as goal

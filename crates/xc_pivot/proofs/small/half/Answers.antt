@@ -1,7 +1,5 @@
 use Rattle.std.proofs.Common.{sym, subst}
 use Rattle.std.specs.Prelude.{Option, IfOk, IfErr}
-use Rattle.xc_corners.specs.Operations.{Gives}
-use Rattle.xc_frac.specs.declared.wide.Op.TheVariants.{Div}
 use Rattle.xc_model.specs.Ratio.{Ratio}
 use Rattle.xc_pivot.specs.SmallValues.{IsHalfOf, PassesHalf}
 use Rattle.xc_pivot.proofs.Smalls.{half_is, half_passes}

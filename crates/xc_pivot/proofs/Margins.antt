@@ -20,7 +20,7 @@ use Rattle.xc_model.proofs.Numbers.{den_positive}
 use Rattle.xc_model.proofs.NumbersOver.{over_number, below_number}
 use Rattle.xc_tableau.proofs.Exchanging.{over_one, quotient_one, quotient_stays}
 use Rattle.xc_pivot.specs.Deltas.{of_part, GivesEach, ArePartsOf, PassesOne}
-use Rattle.xc_pivot.specs.Quotients.{mixed, exceeds_each, IsApart, AreMargins, IsQuotientOf, IsAnswerOf, MarginsStay, PassesMargins, PassesDivision, IsAnswerAt, QuotientStays, PassesQuotient}
+use Rattle.xc_pivot.specs.Quotients.{mixed, ExceedsEach, IsApart, AreMargins, IsQuotientOf, IsAnswerOf, MarginsStay, PassesMargins, PassesDivision, IsAnswerAt, QuotientStays, PassesQuotient}
 use Rattle.xc_pivot.proofs.Beside.{bound_times}
 use Rattle.xc_pivot.proofs.Operands.{difference_one}
 
@@ -52,8 +52,8 @@ taken_is true false limit value = refl
 taken_is true true limit value = refl
 
 module _ (high : Bool) (limit value first second : Delta Ratio) (is_first : first ≡ mixed high limit value) (is_second : second ≡ mixed (not high) limit value) where
-  pub apart_of : exceeds_each first second → IsApart high limit value
-  apart_of h = subst (λ (d : Delta Ratio). exceeds_each d (mixed (not high) limit value)) is_first (subst (λ (d : Delta Ratio). exceeds_each first d) is_second h)
+  pub apart_of : ExceedsEach first second → IsApart high limit value
+  apart_of h = subst (λ (d : Delta Ratio). ExceedsEach d (mixed (not high) limit value)) is_first (subst (λ (d : Delta Ratio). ExceedsEach first d) is_second h)
 
   pub margins_of : (g : Delta Ratio) → GivesEach Sub (of_part first) (of_part second) g → AreMargins high limit value g
   margins_of g h = subst (λ (d : Delta Ratio). GivesEach Sub (of_part d) (of_part (mixed (not high) limit value)) g) is_first (subst (λ (d : Delta Ratio). GivesEach Sub (of_part first) (of_part d) g) is_second h)

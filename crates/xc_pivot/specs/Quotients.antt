@@ -18,13 +18,13 @@ mixed false limit value = record { real = value.real; tiny = limit.tiny }
 mixed true limit value = record { real = limit.real; tiny = value.tiny }
 
 -- both parts of one number are greater than those of another
-abbrev pub exceeds_each : Delta Ratio → Delta Ratio → Type 0
-exceeds_each one other = IsBelow (fraction_of other.real) (fraction_of one.real) × IsBelow (fraction_of other.tiny) (fraction_of one.tiny)
+abbrev pub ExceedsEach : Delta Ratio → Delta Ratio → Type 0
+ExceedsEach one other = IsBelow (fraction_of other.real) (fraction_of one.real) × IsBelow (fraction_of other.tiny) (fraction_of one.tiny)
 
 module _ (high : Bool) (limit value : Delta Ratio) where
   -- both margins are positive
   abbrev pub IsApart : Type 0
-  IsApart = exceeds_each (mixed high limit value) (mixed (not high) limit value)
+  IsApart = ExceedsEach (mixed high limit value) (mixed (not high) limit value)
 
   -- g has the margins
   abbrev pub AreMargins : Delta Ratio → Type 0
@@ -91,7 +91,7 @@ module _ (p : WholeProblem) (x : Corner) (t : Factors) where
     pub passes : Passes w.op w.left w.right
 
   -- r is one of the quotients
-  pub record IsOne (r : Ratio) : Type 0 where
+  pub record IsSomeQuotient (r : Ratio) : Type 0 where
     pub high : Bool
     pub range : ℕ
     pub is_range : range < length p.ranges
@@ -100,7 +100,7 @@ module _ (p : WholeProblem) (x : Corner) (t : Factors) where
   -- of the sides seen none is tight; or r is a quotient, and none of theirs is less
   abbrev pub IsLeastOf : (Bool → ℕ → Bool) → Option Ratio → Type 0
   IsLeastOf seen None = (high : Bool) (j : ℕ) → seen high j ≡ true → ¬ IsTight p x t high j
-  IsLeastOf seen (Some r) = IsOne r × ((high : Bool) (j : ℕ) → seen high j ≡ true → IsTight p x t high j → (q : Ratio) × IsQuotientAt p x t high j q × (¬ IsBelow (fraction_of q) (fraction_of r)))
+  IsLeastOf seen (Some r) = IsSomeQuotient r × ((high : Bool) (j : ℕ) → seen high j ≡ true → IsTight p x t high j → (q : Ratio) × IsQuotientAt p x t high j q × (¬ IsBelow (fraction_of q) (fraction_of r)))
 
   -- no operation of theirs passes
   abbrev pub SeenStay : (Bool → ℕ → Bool) → Type 0

@@ -7,7 +7,7 @@ ghost use Rattle.xc_corners.specs.WholeNumbers.{whole};
 ghost use Rattle.xc_model.specs.Fraction.{IsBelow};
 ghost use Rattle.xc_model.specs.Ratio.{fraction_of};
 ghost use Rattle.xc_pivot.specs.Deltas.{of_part, ArePartsOf};
-ghost use Rattle.xc_pivot.specs.Quotients.{mixed, exceeds_each, IsAnswerOf, MarginsStay, PassesMargins, IsAnswerAt, QuotientStays, PassesQuotient, IsLesser, IsLeastOf, SeenStay, PassesSmall, with_seen, below_seen};
+ghost use Rattle.xc_pivot.specs.Quotients.{mixed, ExceedsEach, IsAnswerOf, MarginsStay, PassesMargins, IsAnswerAt, QuotientStays, PassesQuotient, IsLesser, IsLeastOf, SeenStay, PassesSmall, with_seen, below_seen};
 ghost use Rattle.xc_pivot.specs.States.{IsShaped, IsAt};
 
 use crate::bounds::{high_of, low_of};
@@ -74,7 +74,7 @@ fn exceeds(one: Frac, other: Frac) -> bool
 
 // Whether both parts are.
 fn both_exceed(one: &Delta<Frac>, other: &Delta<Frac>) -> bool
-    ensures { IsTrue result ↔ exceeds_each one.now other.now }
+    ensures { IsTrue result ↔ ExceedsEach one.now other.now }
 {
     if !exceeds(one.real, other.real) {
         return false;

@@ -1,3 +1,4 @@
+pub mod AlwaysSettled
 pub mod Ascending
 pub mod Between
 pub mod Bounded

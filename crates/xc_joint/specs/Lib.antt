@@ -3,6 +3,7 @@ pub mod Causes
 pub mod Kinds
 pub mod Laws
 pub mod PointRanges
+pub mod Settling
 pub mod Small
 pub mod Solved
 pub mod Steps

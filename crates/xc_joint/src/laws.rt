@@ -3,6 +3,7 @@
 //! The functions do nothing: a function's contract is the law.
 ghost use Rattle.xc_joint.specs.Kinds.{HasOneKind};
 ghost use Rattle.xc_joint.specs.Laws.{NarrowForestsHaveNumbers, NumbersAreValues, NumbersHaveSums, NarrowForestsHaveRoom, NumbersOfSolutionsSolve, SmallSolves};
+ghost use Rattle.xc_joint.specs.Settling.{NarrowForestsAreSettled};
 ghost use Rattle.xc_joint.specs.Steps.UnitSums.{UnitRefutationsSum};
 
 use xc_frac::Exact;
@@ -64,3 +65,9 @@ pub fn one_kind()
     links_are_equivalences();
     equations_name_points();
 }
+
+/// Where every component without an empty point is a narrow forest, and no operation passes in the constant of an
+/// empty point, a system is always settled: what is said of it is a certificate.
+pub fn narrow_forests_are_settled()
+    ensures { NarrowForestsAreSettled }
+{}

@@ -7,6 +7,7 @@ use Rattle.xc_calc.specs.declared.arc.Network.{Network}
 use Rattle.xc_cert.specs.Certificates.{IsCertificate, IsPassedText, IsTextOf}
 use Rattle.xc_interval.specs.declared.mode.Mode.{Mode}
 use Rattle.xc_lines.specs.Findings.{CarryFacts, findings}
+use Rattle.xc_lines.specs.JointPart.{IsJointPart, IsPlainText}
 use Rattle.xc_lines.specs.Lines.{printed}
 use Rattle.xc_lines.specs.Settled.{settled_lines}
 use Rattle.xc_points.specs.Gathered.{ArePoints}
@@ -35,6 +36,15 @@ PointsCarryFacts = (mode : Mode) (facts : List Fact) (gathered : Gathered) → A
 abbrev pub FindingsArePassed : Type 0
 FindingsArePassed = (mode : Mode) (facts : List Fact) (networks : List Network) (points : List Point) (bindings : List Binding) (verdicts : List Verdict)
     → length bindings < 2 ^ 64 → length points < 2 ^ 64 → IsPassedText (findings mode facts networks points bindings verdicts)
+
+-- no line of findings begins a joint part
+abbrev pub FindingsArePlain : Type 0
+FindingsArePlain = (mode : Mode) (facts : List Fact) (networks : List Network) (points : List Point) (bindings : List Binding) (verdicts : List Verdict)
+    → length bindings < 2 ^ 64 → length points < 2 ^ 64 → IsPlainText (findings mode facts networks points bindings verdicts)
+
+-- a text has one joint part at most
+abbrev pub HasOneJointPart : Type 0
+HasOneJointPart = (text one other : List ℕ) → IsJointPart text one → IsJointPart text other → one ≡ other
 
 -- what is written where the joint question is settled is a text of its certificate, whatever lines stand before that are passed over
 abbrev pub SettledIsText : Type 0

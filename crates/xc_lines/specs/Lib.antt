@@ -1,4 +1,5 @@
 pub mod Findings
+pub mod JointPart
 pub mod Joints
 pub mod Judgements
 pub mod Laws

@@ -1,7 +1,7 @@
 //! What the definitions of this crate say, in the words of lines and reports.
 //!
 //! Each function does nothing: its contract is the law.
-ghost use Rattle.xc_lines.specs.Laws.{PrintsOneWord, PrintsApart, PointsCarryFacts, FindingsArePassed, SettledIsText};
+ghost use Rattle.xc_lines.specs.Laws.{PrintsOneWord, PrintsApart, PointsCarryFacts, FindingsArePassed, FindingsArePlain, HasOneJointPart, SettledIsText};
 
 use xc_cert::laws::{passed_texts_join, written_is_text};
 
@@ -23,9 +23,17 @@ pub fn points_carry_facts()
 /// Findings are lines of which none is `certificate 1`, so that a certificate may stand behind them.
 pub fn findings_are_passed()
     ensures { FindingsArePassed }
-{
-    passed_texts_join();
-}
+{}
+
+/// No line of findings begins a joint part, so that it begins behind them.
+pub fn findings_are_plain()
+    ensures { FindingsArePlain }
+{}
+
+/// A text has one joint part at most: what stands from the first line on that begins with `joint `.
+pub fn one_joint_part()
+    ensures { HasOneJointPart }
+{}
 
 /// What is written where the joint question is settled is a text of its certificate, also behind findings.
 pub fn settled_is_text()

@@ -8,6 +8,7 @@ pub mod Numbering
 pub mod OneAnswer
 pub mod Parts
 pub mod Ran
+pub mod Reading
 pub mod RenamedBindings
 pub mod RenamedLines
 pub mod RenamedLinks
@@ -21,6 +22,9 @@ pub mod RenamedTaxonomies
 pub mod RenamedVerdicts
 pub mod Renaming
 pub mod Schemas
+pub mod SettledAnswers
+pub mod SettledParts
 pub mod Stops
 pub mod Told
+pub mod Unjudged
 pub mod Writable

@@ -16,7 +16,7 @@ use Rattle.xc_points.specs.Gathered.{ArePoints}
 use Rattle.xc_points.specs.Kept.{Gathered}
 use Rattle.xc_points.specs.declared.types.Point.{Point}
 use Rattle.xc_report.specs.declared.reports.Fact.{Fact}
-use Rattle.xc_system.specs.Systems.{Constraints, IsSystem}
+use Rattle.xc_system.specs.Systems.{Constraints, IsSmall, IsSystem}
 use Rattle.xc_top.specs.Answers.{make_answer}
 use Rattle.xc_top.specs.declared.status.Answer.{Answer}
 use Rattle.xc_top.specs.declared.status.Status.{Status}
@@ -104,6 +104,7 @@ pub record IsJointFindings (mode : Mode) (networks : List Network) (facts : List
   pub system : Constraints
   pub system_is : IsSystemOf points (bindings_of networks points.points) system
   pub kept : IsSystem system
+  pub small : IsSmall system
   pub outcome : Outcome
   pub outcome_is : IsOutcome system outcome
   pub is : answer ≡ make_answer (joint_status points.points verdicts (kind_of outcome)) (findings_of mode networks facts points.points verdicts ++ outcome_lines facts outcome)

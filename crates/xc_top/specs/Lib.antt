@@ -8,6 +8,7 @@ pub mod Judged
 pub mod Laws
 pub mod Proven
 pub mod Run
+pub mod Settled
 pub mod Status
 pub mod Steps
 pub mod Sums

@@ -8,12 +8,13 @@ ghost use Rattle.xc_top.specs.Answers.{make_answer};
 ghost use Rattle.xc_top.specs.Laws.{AnswersAreOne};
 ghost use Rattle.xc_top.specs.Run.{IsAnswered, AppendsPart, IsReadFaultLine, HasFiles, IsUnrefused, IsJudged, LacksFile};
 ghost use Rattle.xc_top.specs.Proven.{IsProven};
+ghost use Rattle.xc_top.specs.Settled.{ForestsAreSettled, SettledIsAccepted};
 ghost use Rattle.xc_top.specs.Words.{VerifyOf, VerifyWords, files_named, words_of, texts};
 ghost use Rattle.xc_top.specs.declared.status.Answer.{Answer};
 
 use crate::Status;
 use crate::answer::answer_command;
-use crate::laws::answers_are_one;
+use crate::laws::{answers_are_one, forests_are_settled, settled_is_accepted};
 use crate::words::read_words;
 use std::alloc::Global;
 use xc_io::{Shelf, Sink, SinkFault};
@@ -44,6 +45,12 @@ pub fn run<S: Shelf, O: Sink>(alloc: Global, words: &[String], shelf: &mut S, ou
     // There is no other: words and files have one answer, whatever numbers names get on the way. Of a joint part the kind
     // is one, and with it the status; another certificate may stand in it.
     ensures one { AnswersAreOne }
+
+    // What `check` wrote with a joint part that is feasible or infeasible, `verify` accepts over the same report and documents.
+    ensures verified { SettledIsAccepted }
+
+    // Where all components without an empty point are narrow forests, and the constants of empty points fit, `check` always settles.
+    ensures forests { ForestsAreSettled }
 
     // Only where the files that the words name are held, up to one that is too long.
     ensures held { IfSome (S.held shelf.old) (λ files. IsAnswered result →
@@ -96,6 +103,8 @@ pub fn run<S: Shelf, O: Sink>(alloc: Global, words: &[String], shelf: &mut S, ou
         (result ≡ Status.Memory) ⊎ IsJudged result) }
 {
     answers_are_one();
+    settled_is_accepted();
+    forests_are_settled();
     acceptance_proves();
     let Some(command) = read_words(words) else {
         return write_text(out, usage_line().as_bytes(), Status::Usage);

@@ -5,7 +5,7 @@ use Rattle.xc_bind.specs.declared.types.Verdict.{Verdict}
 use Rattle.xc_joint.specs.Kinds.{Outcome, IsOutcome, kind_of}
 use Rattle.xc_points.specs.declared.types.Point.{Point}
 use Rattle.xc_report.specs.declared.reports.Fact.{Fact}
-use Rattle.xc_system.specs.Systems.{Constraints, IsSystem}
+use Rattle.xc_system.specs.Systems.{Constraints, IsSmall, IsSystem}
 use Rattle.xc_top.specs.Findings.{has_finding, is_too_wide, is_contradicted, is_caused, outcome_lines}
 use Rattle.xc_top.specs.declared.joint.JointPart.{JointPart}
 use Rattle.xc_top.specs.declared.status.Status.{Status}
@@ -14,6 +14,7 @@ use Rattle.xc_top.specs.declared.status.Status.TheVariants.{Sound, Findings, Too
 -- the lines and the kind of what is said
 pub record IsPartOf (s : Constraints) (facts : List Fact) (part : JointPart) : Type 0 where
   pub kept : IsSystem s
+  pub small : IsSmall s
   pub outcome : Outcome
   pub said : IsOutcome s outcome
   pub lines : part.lines.items ≡ outcome_lines facts outcome

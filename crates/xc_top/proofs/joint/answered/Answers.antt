@@ -8,6 +8,7 @@ joint_lines-requires c = writable c.args.system.now c.args.report.now.facts c.ar
 pub returns : goal.returns
 returns c = record {
   kept = c.points-points.ensures.system;
+  small = c.points-points.ensures.small;
   outcome = Answered c.args.joint.now;
   said = c.requires.answers;
   lines = c.in_ok-joint_lines.ensures;

@@ -73,14 +73,18 @@ module _ (laws : Says) (proves : AcceptanceProves) where
       let text = holds laws check.mode r.networks r.report.facts written j c.certificate c.settled is.0 in
       inr (record {
         fetched = all_fetched verify written.text files later holding h.fetched;
-        answered = (written.text, holding.certificate, answered_later check (JudgementOf verify.certificate written.text) files later (acceptance word) r.networks r.report r.read r.few holding.report holding.documents
-          (inr (record {
-            certificate = c.certificate;
-            text = text;
-            system = j.system;
-            system_is = system_in laws check.mode r.networks r.report.facts written j;
-            judged = record { kept = j.kept; judgement = Accepted; judgement_is = is.1; is = ap acceptance (sym c.claims) };
-          })));
+        answered = (
+          written.text,
+          holding.certificate,
+          answered_later check (JudgementOf verify.certificate written.text) files later (acceptance word) r.networks r.report r.read r.few holding.report holding.documents
+              (inr (record {
+                certificate = c.certificate;
+                text = text;
+                system = j.system;
+                system_is = system_in laws check.mode r.networks r.report.facts written j;
+                judged = record { kept = j.kept; judgement = Accepted; judgement_is = is.1; is = ap acceptance (sym c.claims) };
+              })),
+        );
       })
 
   module _ (one : AnswersAreOne) where

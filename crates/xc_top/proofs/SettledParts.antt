@@ -49,11 +49,14 @@ numbers P n within small listed all =
 
 writable : (s : Constraints) (c : Certificate) → IsSmall s → Proves s c → IsCertificate c
 writable s (Feasible values) small proves = let each = proves.0 in let few = small.points in omega (arith, each, few)
-writable s (Infeasible r) small proves = (proves.0.kept, record {
-  bindings = numbers (λ i. i < length s.equations) (length s.equations) (λ k within. within) small.equations r.bindings proves.0.bindings;
-  lows = numbers (IsKnown s) (length s.bounds) (known_within s.bounds) small.bounds r.lows proves.0.lows;
-  highs = numbers (IsKnown s) (length s.bounds) (known_within s.bounds) small.bounds r.highs proves.0.highs;
-})
+writable s (Infeasible r) small proves = (
+  proves.0.kept,
+  record {
+    bindings = numbers (λ i. i < length s.equations) (length s.equations) (λ k within. within) small.equations r.bindings proves.0.bindings;
+    lows = numbers (IsKnown s) (length s.bounds) (known_within s.bounds) small.bounds r.lows proves.0.lows;
+    highs = numbers (IsKnown s) (length s.bounds) (known_within s.bounds) small.bounds r.highs proves.0.highs;
+  },
+)
 
 module _ (acceptance : AcceptanceProves) where
   -- what is settled is proved, and accepted

@@ -1,5 +1,5 @@
 -- A judgement over documents and a report: what was read on the way, and what is sought in it; and back, over files that hold the same.
-use Rattle.std.proofs.Common.{◌≡◌, ◌∙◌, ℕ, List, [], ◌∷◌, length, Bool, true, false, Some, Result, Ok, Err, MatchBool, codes, inl, inr, refl, sym, ap, subst}
+use Rattle.std.proofs.Common.{◌≡◌, ◌∙◌, ℕ, List, [], ◌∷◌, length, Bool, true, false, Result, Ok, Err, MatchBool, codes, inl, inr, refl, sym, ap, subst}
 use Rattle.std.specs.List.{AllByRecursion}
 use Rattle.xc_calc.specs.declared.arc.ArcKind.{ArcKind}
 use Rattle.xc_calc.specs.declared.arc.Network.{Network}
@@ -17,7 +17,7 @@ use Rattle.xc_report.specs.declared.stated.StatedFact.{StatedFact}
 use Rattle.xc_top.proofs.Unjudged.{refused_unjudged, refusal_unjudged, taxonomy_unjudged}
 use Rattle.xc_top.specs.Answers.{refused}
 use Rattle.xc_top.specs.Checks.{IsOpenedAnswer, IsDocumentsAnswer, IsTaxonomyAnswer, IsOverFiles, over_asked}
-use Rattle.xc_top.specs.Documents.{AreDocumentsOf, IsDocumentOf}
+use Rattle.xc_top.specs.Documents.{AreDocumentsOf}
 use Rattle.xc_top.specs.Judged.{Asked, Sought, are_too_many, IsCounted, IsSought, IsStated, IsRead, IsFactsAnswer}
 use Rattle.xc_top.specs.Proven.{IsReadFrom}
 use Rattle.xc_top.specs.Run.{IsJudged}

@@ -1,28 +1,21 @@
 -- What `check` wrote with a settled joint part, `verify` accepts; and narrow forests are settled.
-use Rattle.std.proofs.Common.{◌≡◌, ◌≤◌, ◌++◌, ℕ, List, [], ◌∷◌, length, Option, Some, None, inl, inr, refl, sym, ap, subst, ◌∙◌}
+use Rattle.std.proofs.Common.{◌≡◌, ℕ, List, [], ◌∷◌, Option, Some, None, inl, inr, refl, sym, ap, subst, ◌∙◌}
 use Rattle.std.specs.List.{AllByRecursion}
 use Rattle.std.specs.Option.{option_or}
-use Rattle.std.specs.Prelude.{codes}
 use Rattle.xc_io.specs.Shelf.{Files}
 use Rattle.xc_joint.specs.Kinds.{IsOutcome}
 use Rattle.xc_joint.specs.Settling.{NarrowForestsAreSettled}
 use Rattle.xc_lines.specs.JointPart.{IsClaim}
-use Rattle.xc_lines.specs.Judgements.{claim}
-use Rattle.xc_lines.specs.Laws.{HasOneJointPart}
-use Rattle.xc_system.specs.declared.types.Certificate.{Certificate}
-use Rattle.xc_system.specs.declared.types.Certificate.TheVariants.{Feasible, Infeasible}
 use Rattle.xc_top.proofs.Leaving.{short_fetched}
 use Rattle.xc_top.proofs.Reading.{answered_later, reached}
 use Rattle.xc_top.proofs.SettledParts.{Says, claimed, claims, holds, settled_proves, system_in, wide_verdict}
 use Rattle.xc_top.proofs.Unjudged.{IsUnjudged, given_has, unfetched_unjudged}
-use Rattle.xc_top.specs.Answer.{IsAnswer, IsAnswerOf, IsCommandAnswer, IsFetchedAnswer, IsHeldAnswer}
-use Rattle.xc_top.specs.Answers.{make_answer}
-use Rattle.xc_top.specs.Checks.{IsOverFiles}
+use Rattle.xc_top.specs.Answer.{IsAnswer, IsAnswerOf, IsCommandAnswer, IsFetchedAnswer}
 use Rattle.xc_top.specs.Documents.{unfetched, unfetched_of, first_unfetched}
 use Rattle.xc_top.specs.Judged.{FindingsAndJoint, JudgementOf}
 use Rattle.xc_top.specs.Laws.{AnswersAreOne, AreOneIf, IsCheck}
 use Rattle.xc_top.specs.Run.{IsJudged}
-use Rattle.xc_top.specs.Settled.{ForestsAreSettled, HoldsCertificate, HoldsNarrowForests, IsSettledAs, IsSettledBy, SettledIsAccepted, acceptance}
+use Rattle.xc_top.specs.Settled.{ForestsAreSettled, HoldsCertificate, IsSettledAs, SettledIsAccepted, acceptance}
 use Rattle.xc_top.specs.Words.{CheckWords, CommandWords, VerifyWords, CheckOf, VerifyOf, file_words, words_of}
 use Rattle.xc_top.specs.declared.status.Answer.{Answer}
 use Rattle.xc_verify.specs.Laws.{AcceptanceProves}

@@ -1,18 +1,16 @@
 -- Findings with a joint part that makes a claim hold a certificate of it, which can be written and read back.
-use Rattle.std.proofs.Common.{◌≡◌, ◌≢◌, ℕ, zero, suc, ◌+◌, ◌^◌, ◌<◌, ◌≤◌, Bool, true, false, cond, List, [], ◌∷◌, ◌++◌, length, get_or, Option, Some, None, Ok, inl, inr, refl, sym, ap, subst, ◌∙◌, arith, append_assoc}
-use Rattle.std.specs.Prelude.{◌||◌, All, IsSomeAnd, IsTrue, codes, slice_get}
+use Rattle.std.proofs.Common.{◌≡◌, ℕ, zero, suc, ◌^◌, ◌<◌, Bool, true, false, cond, List, [], ◌∷◌, ◌++◌, length, get_or, inl, inr, refl, sym, ap, subst, ◌∙◌, arith, append_assoc}
+use Rattle.std.specs.Prelude.{◌||◌, All, IsSomeAnd, IsTrue, codes}
 use Rattle.std.specs.List.{enumerate_from, list_any}
-use Rattle.std.specs.Option.{option_map_or}
 use Rattle.std.proofs.lemmas.List.Elements.{All-weaker, recursion_from_All}
 use Rattle.std.proofs.lemmas.Slice.Zip.{AllZip-long}
 use Rattle.xc_bind.specs.Bindings.{bindings_of}
-use Rattle.xc_bind.specs.Systems.{IsEquationOf, IsSystemOf}
+use Rattle.xc_bind.specs.Systems.{IsEquationOf}
 use Rattle.xc_calc.specs.declared.arc.Network.{Network}
 use Rattle.xc_cert.specs.Certificates.{AreNumbers, IsCertificate, IsTextOf, certificate_text}
-use Rattle.xc_interval.specs.declared.interval.Interval.{Interval}
 use Rattle.xc_interval.specs.declared.mode.Mode.{Mode}
 use Rattle.xc_joint.specs.Answers.{IsAnswer}
-use Rattle.xc_joint.specs.Kinds.{Answered, IsOutcome, Outcome, Unsettled, kind_of}
+use Rattle.xc_joint.specs.Kinds.{Answered, Outcome, Unsettled, kind_of}
 use Rattle.xc_joint.specs.declared.types.Joint.TheVariants.{Settled, TooWide as Caused}
 use Rattle.xc_lines.specs.JointPart.{BeginsJoint, Claims, IsClaim, IsJointPart}
 use Rattle.xc_lines.specs.Judgements.{claim}
@@ -20,8 +18,7 @@ use Rattle.xc_lines.specs.Laws.{FindingsArePassed, FindingsArePlain, HasOneJoint
 use Rattle.xc_lines.specs.Settled.{because_lines, settled_lines}
 use Rattle.xc_model.specs.Ratio.{Ratio}
 use Rattle.xc_report.specs.declared.reports.Fact.{Fact}
-use Rattle.xc_system.specs.Kept.{IsRefutation}
-use Rattle.xc_system.specs.Refutations.{IsContradiction, IsKnown}
+use Rattle.xc_system.specs.Refutations.{IsKnown}
 use Rattle.xc_system.specs.Systems.{Constraints, IsSmall, IsSystem, range_at}
 use Rattle.xc_system.specs.declared.types.Bound.{Bound}
 use Rattle.xc_system.specs.declared.types.Certificate.{Certificate}

@@ -1,4 +1,4 @@
-use Rattle.std.proofs.Common.{◌≡◌, Err, refl, subst, ap, ◌∙◌}
+use Rattle.std.proofs.Common.{Err, refl, subst, ap, ◌∙◌}
 use Rattle.xc_joint.specs.Answers.{Answers as AnswersTo}
 use Rattle.xc_joint.specs.Kinds.{Unsettled}
 use Rattle.xc_top.proofs.joint.part_of.Goals as goal

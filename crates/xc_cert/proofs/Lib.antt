@@ -1,5 +1,4 @@
 pub mod Examples
-pub mod Cutting
 pub mod FirstPlace
 pub mod Lacking
 pub mod Leading

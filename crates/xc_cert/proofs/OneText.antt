@@ -3,11 +3,12 @@ use Rattle.std.proofs.Common.{◌≡◌, ℕ, ◌+◌, ◌<◌, ◌≤◌, ◌^�
 use Rattle.std.specs.Prelude.{codes, decimal}
 use Rattle.std.specs.List.{enumerate_from}
 use Rattle.std.proofs.lemmas.Bool.{cases_lt}
-use Rattle.xc_cert.specs.Certificates.{IsLine, AreLines, AreNumbers, IsPassed, ArePassed, IsCertificate, IsTextOf, opening, numbered_line, numbered_lines, certificate_lines, certificate_text, text_of}
+use Rattle.xc_cert.specs.Certificates.{AreNumbers, IsPassed, ArePassed, IsCertificate, IsTextOf, opening, numbered_line, numbered_lines, certificate_lines, certificate_text}
+use Rattle.xc_lists.specs.TextLines.{IsLine, AreLines, text_of}
 use Rattle.xc_cert.specs.Faults.{Begin, IsFaultAt}
 use Rattle.xc_cert.specs.Laws.{OneCertificate, TextOrFault, OneFault, WrittenIsText, PassedTextsJoin}
 use Rattle.xc_cert.specs.Steps.Reading.{Gathered, nothing, Leads, ended}
-use Rattle.xc_cert.proofs.Cutting.{text_of-append, Continues, lines_meet, lines_within, lines_whole}
+use Rattle.xc_lists.proofs.Cutting.{text_of-append, Continues, lines_meet, lines_within, lines_whole}
 use Rattle.xc_cert.proofs.Lacking.{spelling_lacks}
 use Rattle.xc_lists.proofs.Lacking.{all_append, all_back, lacks_append, lacks_by, decimal_lacks}
 use Rattle.xc_cert.proofs.Leading.{leads_same, leads_split, done, ended_done, complete}

@@ -3,7 +3,8 @@ use Rattle.std.proofs.Common.{◌≡◌, ◌≢◌, ℕ, ◌+◌, ◌≤◌, Boo
 use Rattle.std.specs.Prelude.{◌==◌, codes}
 use Rattle.std.proofs.lemmas.Bool.{eqb-true}
 use Rattle.std.proofs.lemmas.List.{nil_from_length}
-use Rattle.xc_cert.specs.Certificates.{IsLine, IsCertificate, IsTextOf, certificate_lines, text_of}
+use Rattle.xc_cert.specs.Certificates.{IsCertificate, IsTextOf, certificate_lines}
+use Rattle.xc_lists.specs.TextLines.{IsLine, text_of}
 use Rattle.xc_cert.specs.Faults.{Begin, IsFaultAt}
 use Rattle.xc_cert.specs.Steps.Lines.{IsCut, Says}
 use Rattle.xc_lists.specs.Members.{Lacks}
@@ -11,7 +12,7 @@ use Rattle.xc_cert.specs.Steps.Reading.{Gathered, nothing, after, Leads, IsReach
 use Rattle.xc_cert.specs.declared.line.Line.{Line}
 use Rattle.xc_cert.specs.declared.reader.Stage.{Stage}
 use Rattle.xc_cert.specs.declared.reader.Stage.TheVariants.{Before, Opened, Values, Bindings, Lows, Highs, Solved, Refuted}
-use Rattle.xc_cert.proofs.Cutting.{cut_same, not_there, text_of-append, lines_whole}
+use Rattle.xc_lists.proofs.Cutting.{cut_same, not_there, text_of-append, lines_whole}
 use Rattle.xc_lists.proofs.Lacking.{all_append}
 use Rattle.xc_cert.proofs.Leading.{leads_append, leads_split, leads_same, makes, done, ended_done}
 use Rattle.xc_cert.proofs.OneText.{all_lines, text_are_lines, text_leads, begin_leads}

@@ -9,7 +9,7 @@ use Rattle.xc_cert.specs.declared.line.Line.{Line}
 use Rattle.xc_cert.specs.declared.line.Line.TheVariants.{Opening, Feasible, Infeasible, End, Numbered, Other}
 use Rattle.xc_cert.specs.declared.line.Word.{Word}
 use Rattle.xc_cert.specs.declared.line.Word.TheVariants.{Value, Binding, Low, High}
-use Rattle.xc_cert.proofs.Cutting.{cut_same, not_there}
+use Rattle.xc_lists.proofs.Cutting.{cut_same, not_there}
 use Rattle.xc_lists.proofs.Lacking.{lacks_by, decimal_lacks}
 use Rattle.xc_decimal.specs.Laws.{HasOneSpelling}
 use Rattle.xc_decimal.specs.Spelling.{spelling}

@@ -3,7 +3,8 @@ use Rattle.std.proofs.Common.{◌≡◌, ◌≢◌, ◌⊎◌, ℕ, List, [], �
 use Rattle.std.specs.Prelude.{codes}
 use Rattle.std.specs.List.Sorted.{IsStrictlySortedBy}
 use Rattle.std.proofs.lemmas.List.Elements.{All-nil}
-use Rattle.xc_cert.specs.Certificates.{IsLine, AreLines, IsPassed, ArePassed, opening, body_lines}
+use Rattle.xc_cert.specs.Certificates.{IsPassed, ArePassed, opening, body_lines}
+use Rattle.xc_lists.specs.TextLines.{IsLine, AreLines}
 use Rattle.xc_cert.specs.Steps.Lines.{Says}
 use Rattle.xc_cert.specs.Steps.Reading.{Gathered, nothing, after, Passes, Fits, Leads, refutation_of}
 use Rattle.xc_cert.specs.declared.line.Line.{Line}

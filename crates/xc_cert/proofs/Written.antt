@@ -1,8 +1,9 @@
 -- A text that is written line after line.
 use Rattle.std.proofs.Common.{◌≡◌, ℕ, List, ◌++◌, sym, ap, ◌∙◌, append_assoc}
 use Rattle.std.specs.Prelude.{codes}
-use Rattle.xc_cert.specs.Certificates.{body_lines, numbered_lines, text_of}
-use Rattle.xc_cert.proofs.Cutting.{text_of-append}
+use Rattle.xc_cert.specs.Certificates.{body_lines, numbered_lines}
+use Rattle.xc_lists.specs.TextLines.{text_of}
+use Rattle.xc_lists.proofs.Cutting.{text_of-append}
 use Rattle.xc_model.specs.Ratio.{Ratio}
 use Rattle.xc_system.specs.Kept.{Multipliers}
 use Rattle.xc_system.specs.declared.types.Certificate.TheVariants.{Infeasible}

@@ -1,24 +1,14 @@
 -- Certificate texts (this project's own): lines that are passed over, the line `certificate 1`, a body, and the line `end`.
 use Rattle.std.specs.Prelude.{◌≡◌, ◌≢◌, ℕ, ◌<◌, ◌≤◌, ◌^◌, List, [], ◌∷◌, ◌++◌, length, map, codes, decimal}
-use Rattle.std.specs.List.{flat_map, enumerate_from, AllByRecursion}
+use Rattle.std.specs.List.{enumerate_from, AllByRecursion}
 use Rattle.xc_decimal.specs.Spelling.{spelling}
+use Rattle.xc_lists.specs.TextLines.{IsLine, text_of}
 use Rattle.xc_model.specs.Ratio.{Ratio}
 use Rattle.xc_system.specs.Kept.{Multipliers, IsRefutation}
 use Rattle.xc_system.specs.declared.types.Certificate.{Certificate}
 use Rattle.xc_system.specs.declared.types.Certificate.TheVariants.{Feasible, Infeasible}
 
 -- ---- lines
-
--- a line, without the line feed that ends it
-abbrev pub IsLine : List ℕ → Type 0
-IsLine line = AllByRecursion (λ byte. byte ≢ 10) line
-
-abbrev pub AreLines : List (List ℕ) → Type 0
-AreLines lines = AllByRecursion IsLine lines
-
--- lines, each ended by a line feed
-abbrev pub text_of : List (List ℕ) → List ℕ
-text_of lines = flat_map (λ line. line ++ codes "\n") lines
 
 -- a word, a number and a fraction
 abbrev pub numbered_line : List ℕ → ℕ × Ratio → List ℕ

@@ -1,6 +1,7 @@
 -- The first line that fits nowhere in a certificate text, behind those before it.
 use Rattle.std.specs.Prelude.{◌≡◌, ℕ, ◌+◌, List, [], ◌∷◌, ◌++◌, length, codes, Result, Ok, Err}
-use Rattle.xc_cert.specs.Certificates.{IsLine, AreLines, text_of, IsTextOf}
+use Rattle.xc_cert.specs.Certificates.{IsTextOf}
+use Rattle.xc_lists.specs.TextLines.{IsLine, AreLines, text_of}
 use Rattle.xc_cert.specs.declared.fault.CertFault.{CertFault}
 use Rattle.xc_cert.specs.declared.fault.CertFault.TheVariants.{Memory, NotCertificate}
 use Rattle.xc_system.specs.declared.types.Certificate.{Certificate}

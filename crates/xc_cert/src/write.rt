@@ -1,7 +1,8 @@
 // Certificates written as texts.
 ghost use Rattle.std.specs.Prelude.{◌≡◌, ◌≤◌, ◌<◌, ◌^◌, ◌++◌, OnOk, OnErr, IfOk, length, codes};
 ghost use Rattle.std.specs.List.{enumerate_from};
-ghost use Rattle.xc_cert.specs.Certificates.{AreNumbers, HasFewValues, IsCertificate, body_lines, certificate_text, numbered_line, numbered_lines, text_of};
+ghost use Rattle.xc_cert.specs.Certificates.{AreNumbers, HasFewValues, IsCertificate, body_lines, certificate_text, numbered_line, numbered_lines};
+ghost use Rattle.xc_lists.specs.TextLines.{text_of};
 ghost use Rattle.xc_system.specs.declared.types.Certificate.TheVariants as certificate;
 
 use std::alloc::Global;

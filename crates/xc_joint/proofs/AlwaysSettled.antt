@@ -16,11 +16,11 @@ use Rattle.xc_joint.specs.declared.types.Joint.TheVariants.{Settled, TooWide}
 use Rattle.xc_joint.specs.declared.types.Part.{Part}
 use Rattle.xc_joint.specs.declared.types.Part.TheVariants.{Wide as Caused}
 use Rattle.xc_model.specs.Ratio.{Ratio}
-use Rattle.xc_system.proofs.Joins.{place_of}
-use Rattle.xc_system.proofs.Places.{places_in}
+use Rattle.xc_lists.proofs.Members.{place_of}
+use Rattle.xc_lists.proofs.Members.{places_in}
 use Rattle.xc_system.specs.Components.{IsComponent}
 use Rattle.xc_system.specs.Forests.{IsNarrowForest}
-use Rattle.xc_system.specs.Members.{IsIn}
+use Rattle.xc_lists.specs.Members.{IsIn}
 use Rattle.xc_system.specs.Systems.{Constraints, facts_of, point_at, range_at}
 use Rattle.xc_system.specs.declared.types.Component.{Component}
 

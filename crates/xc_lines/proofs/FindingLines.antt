@@ -8,9 +8,10 @@ use Rattle.xc_bind.specs.declared.types.Binding.{Binding}
 use Rattle.xc_bind.specs.declared.types.Verdict.{Verdict}
 use Rattle.xc_bind.specs.declared.types.Verdict.TheVariants.{Consistent, Inconsistent, Unjudged, TooWide}
 use Rattle.xc_calc.specs.declared.arc.Network.{Network}
-use Rattle.xc_cert.proofs.Cutting.{text_of-append}
+use Rattle.xc_lists.proofs.Cutting.{text_of-append}
 use Rattle.xc_lists.proofs.Lacking.{all_append, decimal_lacks, lacks_append, lacks_by}
-use Rattle.xc_cert.specs.Certificates.{IsLine, opening, text_of}
+use Rattle.xc_cert.specs.Certificates.{opening}
+use Rattle.xc_lists.specs.TextLines.{IsLine, text_of}
 use Rattle.xc_lists.specs.Members.{Lacks}
 use Rattle.xc_interval.specs.Ranges.{is_empty_range}
 use Rattle.xc_interval.specs.declared.mode.Mode.{Mode}

@@ -2,10 +2,10 @@
 use Rattle.std.proofs.Common.{◌≡◌, ◌≢◌, ℕ, zero, suc, List, [], ◌∷◌, ◌++◌, take, refl, sym, ap, ◌∙◌, subst, inl, inr, append_assoc}
 use Rattle.std.specs.List.{AllByRecursion}
 use Rattle.std.specs.Prelude.{codes}
-use Rattle.xc_cert.proofs.Cutting.{Continues, first_line, lines_meet}
-use Rattle.xc_cert.proofs.Lacking.{all_back, lacks_by}
-use Rattle.xc_cert.specs.Certificates.{AreLines, text_of}
-use Rattle.xc_cert.specs.Steps.Lines.{Lacks}
+use Rattle.xc_lists.proofs.Cutting.{Continues, first_line, lines_meet}
+use Rattle.xc_lists.proofs.Lacking.{all_back, lacks_by}
+use Rattle.xc_lists.specs.TextLines.{AreLines, text_of}
+use Rattle.xc_lists.specs.Members.{Lacks}
 use Rattle.xc_lines.specs.JointPart.{BeginsJoint, IsPlain, IsJointPart}
 use Rattle.xc_lines.specs.Laws.{HasOneJointPart}
 

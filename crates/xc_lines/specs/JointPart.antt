@@ -1,7 +1,7 @@
 -- Where the joint part of an output begins, and what it claims.
 use Rattle.std.specs.Prelude.{◌≡◌, ◌⊎◌, ℕ, List, ◌++◌, take, codes}
 use Rattle.std.specs.List.{AllByRecursion}
-use Rattle.xc_cert.specs.Certificates.{IsLine, text_of}
+use Rattle.xc_lists.specs.TextLines.{IsLine, text_of}
 
 -- the text begins a joint part
 abbrev pub BeginsJoint : List ℕ → Type 0

@@ -1,4 +1,5 @@
 pub mod Anys
+pub mod Cutting
 pub mod EqualPairs
 pub mod FirstPlaces
 pub mod Lacking

@@ -4,3 +4,4 @@ pub mod Lending
 pub mod Members
 pub mod Places
 pub mod Steps
+pub mod TextLines

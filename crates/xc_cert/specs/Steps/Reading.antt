@@ -1,7 +1,8 @@
 -- What was read of the lines so far, and what a line makes of it.
 use Rattle.std.specs.Prelude.{◌≡◌, ◌≢◌, ◌⊎◌, ◌+◌, ◌-◌, ◌==◌, ◌&&◌, ◌++◌, ℕ, pos, List, [], ◌∷◌, Bool, true, false, not, nat_lt, int_lt, length, slice_get, unsigned_abs, Option, Some, None, if◌then◌else◌}
 use Rattle.std.specs.Option.{option_map, option_map_or}
-use Rattle.xc_cert.specs.Certificates.{AreLines, opening, text_of}
+use Rattle.xc_cert.specs.Certificates.{opening}
+use Rattle.xc_lists.specs.TextLines.{AreLines, text_of}
 use Rattle.xc_cert.specs.Steps.Lines.{Says}
 use Rattle.xc_cert.specs.declared.line.Line.{Line}
 use Rattle.xc_cert.specs.declared.line.Line.TheVariants as line

@@ -1,5 +1,6 @@
 use Rattle.std.proofs.Common.{◌≡◌, ◌++◌, drop, take}
-use Rattle.xc_cert.specs.Certificates.{AreNumbers, numbered_lines, text_of}
+use Rattle.xc_cert.specs.Certificates.{AreNumbers, numbered_lines}
+use Rattle.xc_lists.specs.TextLines.{text_of}
 use Rattle.xc_cert.proofs.write.push_listed.Given as goal
 
 -- the lines so far, and then those that are left; and the numbers so far

@@ -1,7 +1,8 @@
 use Rattle.std.proofs.Common.{◌≡◌, ◌++◌, rules}
 use Rattle.std.specs.Prelude.{codes}
 use Rattle.std.proofs.lemmas.Result.{IfOk-equal}
-use Rattle.xc_cert.specs.Certificates.{numbered_lines, text_of}
+use Rattle.xc_cert.specs.Certificates.{numbered_lines}
+use Rattle.xc_lists.specs.TextLines.{text_of}
 use Rattle.xc_cert.proofs.Written.{refutation_text}
 use Rattle.xc_cert.proofs.write.push_refutation.Goals as goal
 

@@ -1,7 +1,8 @@
 use Rattle.std.proofs.Common.{◌≡◌, ◌++◌, drop}
 use Rattle.std.specs.Prelude.{codes}
 use Rattle.std.specs.List.{enumerate_from}
-use Rattle.xc_cert.specs.Certificates.{numbered_lines, text_of}
+use Rattle.xc_cert.specs.Certificates.{numbered_lines}
+use Rattle.xc_lists.specs.TextLines.{text_of}
 use Rattle.xc_cert.proofs.write.push_values.Given as goal
 
 -- the lines so far, and then those of the values that are left

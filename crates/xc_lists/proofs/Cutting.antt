@@ -2,8 +2,8 @@
 use Rattle.std.proofs.Common.{◌≡◌, ◌⊎◌, ℕ, List, [], ◌∷◌, ◌++◌, refl, sym, ap, ◌∙◌, append_assoc, append-nil, inl, inr}
 use Rattle.std.specs.Prelude.{codes}
 use Rattle.std.proofs.lemmas.List.Concat.{flat_map-append}
-use Rattle.xc_cert.specs.Certificates.{IsLine, AreLines, text_of}
 use Rattle.xc_lists.specs.Members.{Lacks}
+use Rattle.xc_lists.specs.TextLines.{IsLine, AreLines, text_of}
 
 head_same : {X : Type 0} (x y : X) (xs ys : List X) → x ∷ xs ≡ y ∷ ys → x ≡ y
 head_same x y xs ys e = cc

@@ -16,7 +16,7 @@ use Rattle.xc_frac.specs.declared.wide.Wide.{Wide}
 use Rattle.xc_frac.specs.declared.wide.Op.TheVariants.{Div}
 use Rattle.xc_corners.specs.Operations.{Gives}
 use Rattle.xc_model.specs.Ratio.{Ratio}
-use Rattle.xc_tableau.proofs.Exchanging.{over_one, quotient_one}
+use Rattle.xc_corners.proofs.OneResult.{over_one, quotient_one}
 use Rattle.xc_pivot.specs.SmallValues.{SmallStays, ValuesStay, PassesFeasible}
 use Rattle.xc_pivot.specs.Solving.{NothingStops, StopsAt, IfFeasible, IfInfeasible, IfStopped}
 use Rattle.xc_pivot.specs.States.{ArePlaces, HasNoChoice}

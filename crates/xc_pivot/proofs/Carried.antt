@@ -10,7 +10,8 @@ use Rattle.xc_corners.specs.declared.problem.Problem.{Problem}
 use Rattle.xc_frac.specs.declared.wide.Wide.{Wide}
 use Rattle.xc_model.specs.Ratio.{Ratio}
 use Rattle.xc_tableau.specs.Tables.{Table, Has, IsFilled}
-use Rattle.xc_tableau.proofs.Exchanging.{has_some, over_one}
+use Rattle.xc_corners.proofs.RowPlaces.{entry_there, place_below}
+use Rattle.xc_corners.proofs.OneResult.{over_one}
 use Rattle.xc_pivot.specs.States.{HasRow, HasColumn, ArePlaces, AreFactors, IsAt}
 use Rattle.xc_pivot.specs.Steps.{AreBasicAt}
 use Rattle.xc_pivot.specs.declared.types.Choice.{Choice}
@@ -56,7 +57,7 @@ module _ (p : WholeProblem) (m n : ℕ) (x : Corner) (t : Factors) (table : Tabl
   -- the fraction of a factor is the entry of the table
   has_factor : (k j r c : ℕ) (g : Ratio) → HasRow places k r → HasColumn places j c → IsFactor t k j g → Has table r c g
   has_factor k j r c g h l is =
-      let entry = has_some table r c filled (in_row k r h) (in_column j c l) in
+      let entry = entry_there table.entries (r * table.columns + c) (omega (arith, filled, place_below r c table.rows table.columns (in_row k r h) (in_column j c l))) in
       subst (λ (u : Ratio). Has table r c u) (over_one entry.0 g (t.factor k j) t.over (f k j r c entry.0 h l entry.1) is) entry.1
 
   own_in : (u : Ratio) → IsOwnFactor (IsFactor t) b q u → IsOwnFactor (Has table) row column u

@@ -16,7 +16,7 @@ use Rattle.xc_frac.specs.Passes.{Passes}
 use Rattle.xc_frac.specs.declared.wide.Op.TheVariants.{Mul}
 use Rattle.xc_frac.specs.declared.wide.Wide.{Wide}
 use Rattle.xc_model.specs.Ratio.{Ratio}
-use Rattle.xc_tableau.proofs.Exchanging.{over_one, product_stays}
+use Rattle.xc_corners.proofs.OneResult.{over_one, product_stays}
 use Rattle.xc_pivot.specs.Deltas.{of_part, ArePartsOf}
 use Rattle.xc_pivot.specs.Firsts.{PassesFirst, HasSums, RowsStay, LowStays, HasLowSums, AreFirstPlaces}
 use Rattle.xc_pivot.specs.States.{HasColumn, IsShaped, IsAt}

@@ -18,7 +18,7 @@ use Rattle.xc_model.specs.Ratio.{Ratio, fraction_of}
 use Rattle.xc_model.proofs.Integers.{mul_positive, neg-mul}
 use Rattle.xc_model.proofs.Numbers.{den_positive}
 use Rattle.xc_model.proofs.NumbersOver.{over_number, below_number}
-use Rattle.xc_tableau.proofs.Exchanging.{over_one, quotient_one, quotient_stays}
+use Rattle.xc_corners.proofs.OneResult.{over_one, quotient_one, quotient_stays}
 use Rattle.xc_pivot.specs.Deltas.{of_part, GivesEach, ArePartsOf, PassesOne}
 use Rattle.xc_pivot.specs.Quotients.{mixed, ExceedsEach, IsApart, AreMargins, IsQuotientOf, IsAnswerOf, MarginsStay, PassesMargins, PassesDivision, IsAnswerAt, QuotientStays, PassesQuotient}
 use Rattle.xc_pivot.proofs.Beside.{bound_times}

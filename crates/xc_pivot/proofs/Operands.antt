@@ -8,7 +8,7 @@ use Rattle.xc_model.specs.Fraction.{Fraction, SameNumber, difference_of, sum_of}
 use Rattle.xc_model.specs.Ratio.{Ratio, fraction_of}
 use Rattle.xc_model.proofs.LowestTerms.{one_lowest}
 use Rattle.xc_model.proofs.Numbers.{same-sym, same-trans}
-use Rattle.xc_tableau.proofs.Exchanging.{over_one, product_one, quotient_one}
+use Rattle.xc_corners.proofs.OneResult.{over_one, product_one, quotient_one}
 
 result_one : (r s : Ratio) (n : Fraction) → SameNumber (fraction_of r) n → SameNumber (fraction_of s) n → r ≡ s
 result_one r s n h l = one_lowest r s (same-trans (fraction_of r) n (fraction_of s) h (same-sym (fraction_of s) n l))

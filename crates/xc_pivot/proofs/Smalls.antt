@@ -17,7 +17,8 @@ use Rattle.xc_model.specs.Order.{Orders}
 use Rattle.xc_model.specs.Ratio.{Ratio, fraction_of}
 use Rattle.xc_model.proofs.LowestTerms.{one_lowest}
 use Rattle.xc_model.proofs.Orders.{number_total}
-use Rattle.xc_tableau.proofs.Exchanging.{over_one, product_one, product_stays, quotient_stays, if_ok, if_passes}
+use Rattle.xc_corners.proofs.OneResult.{over_one, product_one, product_stays, quotient_stays}
+use Rattle.xc_corners.proofs.Operated.{if_ok, if_passes}
 use Rattle.xc_pivot.specs.Deltas.{ArePartsOf}
 use Rattle.xc_pivot.specs.Quotients.{below_seen, IsLeastOf, SeenStay, PassesSmall}
 use Rattle.xc_pivot.specs.SmallValues.{IsHalfOf, PassesHalf, SmallStays, ValueStays, PassesValue}

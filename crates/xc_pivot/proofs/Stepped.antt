@@ -9,7 +9,7 @@ use Rattle.xc_frac.specs.declared.delta.Delta.{Delta}
 use Rattle.xc_frac.specs.declared.wide.Op.TheVariants.{Add, Mul, Div}
 use Rattle.xc_frac.specs.declared.wide.Wide.{Wide}
 use Rattle.xc_model.specs.Ratio.{Ratio}
-use Rattle.xc_tableau.proofs.Exchanging.{over_one, product_stays, quotient_stays}
+use Rattle.xc_corners.proofs.OneResult.{over_one, product_stays, quotient_stays}
 use Rattle.xc_pivot.specs.Deltas.{of_part}
 use Rattle.xc_pivot.specs.States.{HasRow, ArePlaces}
 use Rattle.xc_pivot.specs.Steps.{IsStepOf, IsEnteringMoved, IsBasicMoved, AreMoved}

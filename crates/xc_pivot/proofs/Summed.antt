@@ -9,8 +9,8 @@ use Rattle.xc_frac.specs.Passes.{Passes}
 use Rattle.xc_frac.specs.declared.wide.Op.TheVariants.{Add, Mul}
 use Rattle.xc_model.specs.Ratio.{Ratio, IsOver}
 use Rattle.xc_tableau.specs.Tables.{Table, IsFilled}
-use Rattle.xc_tableau.proofs.Exchanging.{over_one, product_one}
-use Rattle.xc_tableau.proofs.Places.{place_below, places_apart}
+use Rattle.xc_corners.proofs.OneResult.{over_one, product_one}
+use Rattle.xc_corners.proofs.RowPlaces.{place_below, places_apart}
 use Rattle.xc_frac.specs.declared.delta.Delta.{Delta}
 use Rattle.xc_pivot.specs.Deltas.{of_part}
 use Rattle.xc_pivot.specs.Firsts.{HasRowSums, EntriesStay, KeepsRows, LowStays, IsLowAdded}

@@ -16,7 +16,8 @@ use Rattle.xc_model.proofs.Numbers.{same-sym, same-trans, quotient_unique}
 use Rattle.xc_model.proofs.Over.{ratio, over_same}
 use Rattle.xc_tableau.specs.Exchanges.{PassesIn, IsLeaving, IsRest, IsExchanged}
 use Rattle.xc_tableau.specs.Tables.{Table, Has}
-use Rattle.xc_tableau.proofs.Places.{place_below}
+use Rattle.xc_corners.proofs.OneResult.{over_one, negative_one, product_one, quotient_one, product_stays, quotient_stays}
+use Rattle.xc_corners.proofs.RowPlaces.{entry_there, place_below}
 
 -- ---- Entries.
 
@@ -24,12 +25,7 @@ pub has_same : (t : Table) (k j : ℕ) (f g : Ratio) → Has t k j f → Has t k
 has_same t k j f g h l = sym (get_or_from_slice_get t.entries (k * t.columns + j) f f h) ∙ get_or_from_slice_get t.entries (k * t.columns + j) g f l
 
 pub has_some : (t : Table) (k j : ℕ) → length t.entries ≡ t.rows * t.columns → k < t.rows → j < t.columns → (f : Ratio) × Has t k j f
-has_some t k j e h l = go (slice_get_cases t.entries (k * t.columns + j)).1
-  where
-    go : (((x : Ratio) × (k * t.columns + j < length t.entries) × (slice_get t.entries (k * t.columns + j) ≡ Some x) × (get_or t.entries (k * t.columns + j) x ≡ x)) ⊎ ((length t.entries ≤ k * t.columns + j) × (slice_get t.entries (k * t.columns + j) ≡ None)))
-        → (f : Ratio) × Has t k j f
-    go (inl s) = (s.0, s.2)
-    go (inr s) = absurd (omega (arith, place_below k j t.rows t.columns h l))
+has_some t k j e h l = entry_there t.entries (k * t.columns + j) (omega (arith, e, place_below k j t.rows t.columns h l))
 
 -- what is read at its place is an entry
 pub has_read : (t : Table) (k j p : ℕ) (f : Ratio) → length t.entries ≡ t.rows * t.columns → p ≡ k * t.columns + j → k < t.rows → j < t.columns → f ≡ get_or t.entries p f → Has t k j f
@@ -43,48 +39,6 @@ pub written_other : (xs : List Ratio) (p m : ℕ) (v r : Ratio) → m ≢ p → 
 written_other xs p m v r n g =
     let inside : m < length xs = omega (arith, slice_get_within (slice_set xs p v) m r g, length-set xs p v) in
     slice_get_read xs (length xs) m r refl inside (sym (get_or_from_slice_get (slice_set xs p v) m r r g) ∙ get_or-set_other xs p m v r n)
-
--- ---- Answers of operations.
-
-pub if_ok : (o : Result Ratio Wide) (P Q : Ratio → Type 0) → IfOk o P → ((r : Ratio) → P r → Q r) → IfOk o Q
-if_ok (Ok r) P Q h k = k r h
-if_ok (Err w) P Q h k = tt
-
--- an answer, and that the operation does not pass
-pub if_fits : (o : Result Ratio Wide) (op : Op) (f g : Ratio) (Q : Ratio → Type 0) → IfOk o (Gives op f g) → OnOk o (¬ Passes op f g) → ((r : Ratio) → Gives op f g r → ¬ Passes op f g → Q r) → IfOk o Q
-if_fits (Ok r) op f g Q h n k = k r h n
-if_fits (Err w) op f g Q h n k = tt
-
--- what two facts of an answer give
-pub if_done : (o : Result (Unit {0}) Wide) (P Q R : Type 0) → OnOk o P → OnOk o Q → (P → Q → R) → OnOk o R
-if_done (Ok u) P Q R p q k = k p q
-if_done (Err w) P Q R p q k = tt
-
--- an operation that passes is named with its operands
-pub if_passes : (o : Result Ratio Wide) (P : Wide → Type 0) (op : Op) (f g : Ratio) → IfErr o (λ w. w ≡ operation op f g) → OnErr o (Passes op f g) → (Passes op f g → P (operation op f g)) → IfErr o P
-if_passes (Ok r) P op f g e h k = tt
-if_passes (Err w) P op f g e h k = subst P (sym e) (k h)
-
--- ---- One answer each.
-
-pub over_one : (f g : Ratio) (n : ℤ) (d : ℕ) → IsOver f n d → IsOver g n d → f ≡ g
-over_one f g n d h l = one_lowest f g (same-trans (fraction_of f) (ratio n d h.positive) (fraction_of g) (over_same f n d h.positive h) (same-sym (fraction_of g) (ratio n d h.positive) (over_same g n d h.positive l)))
-
-negative_one : (f r s : Ratio) → IsNegativeOf f r → IsNegativeOf f s → r ≡ s
-negative_one f r s h l = one_lowest r s (same-trans (fraction_of r) (neg_of (fraction_of f)) (fraction_of s) h (same-sym (fraction_of s) (neg_of (fraction_of f)) l))
-
-pub product_one : (f g r s : Ratio) → Gives Mul f g r → Gives Mul f g s → r ≡ s
-product_one f g r s h l = one_lowest r s (same-trans (fraction_of r) (product_of (fraction_of f) (fraction_of g)) (fraction_of s) h (same-sym (fraction_of s) (product_of (fraction_of f) (fraction_of g)) l))
-
-pub quotient_one : (f g r s : Ratio) → Gives Div f g r → Gives Div f g s → r ≡ s
-quotient_one f g r s h l = one_lowest r s (quotient_unique (fraction_of r) (fraction_of s) (fraction_of f) (fraction_of g) h l)
-
--- what a product or a quotient gives shows that it does not pass
-pub product_stays : (f g r : Ratio) → Gives Mul f g r → ¬ Passes Mul f g
-product_stays f g r h w = product_fits (fraction_of r) (fraction_of f) (fraction_of g) h r.lowest.coprime r.lowest.num_narrow r.lowest.den_narrow w
-
-pub quotient_stays : (f g r : Ratio) → Gives Div f g r → ¬ Passes Div f g
-quotient_stays f g r h w = quotient_fits (fraction_of r) (fraction_of f) (fraction_of g) h r.lowest.coprime r.lowest.num_narrow r.lowest.den_narrow w
 
 module _ (t : Table) (b q : ℕ) where
   own_same : (u v : Ratio) → IsOwnFactor (Has t) b q u → IsOwnFactor (Has t) b q v → u ≡ v

@@ -8,7 +8,7 @@ use Rattle.xc_tableau.specs.Steps.{table, EnteringDone, RowDone, RowsKept, Other
 use Rattle.xc_tableau.specs.Tables.{Has}
 use Rattle.xc_tableau.specs.declared.pivoting.Pivot.{Pivot}
 use Rattle.xc_tableau.proofs.Exchanging.{written_same, written_other}
-use Rattle.xc_tableau.proofs.Places.{place_below, places_apart}
+use Rattle.xc_corners.proofs.RowPlaces.{place_below, places_apart}
 
 module _ (pivot : Pivot) (entries xs : List Ratio) (k n p : ℕ) (v : Ratio) (is : p ≡ k * pivot.columns + n) (row : k < pivot.rows) (column : n < pivot.columns) (room : length xs ≡ pivot.rows * pivot.columns) where
   within : p < length xs

@@ -7,7 +7,7 @@ use Rattle.xc_corners.specs.WholeNumbers.{whole}
 use Rattle.xc_frac.specs.declared.delta.Delta.{Delta}
 use Rattle.xc_frac.specs.declared.wide.Wide.{Wide}
 use Rattle.xc_model.specs.Ratio.{Ratio}
-use Rattle.xc_tableau.proofs.Exchanging.{if_done}
+use Rattle.xc_corners.proofs.Operated.{if_done}
 use Rattle.xc_pivot.specs.Firsts.{PassesFirst, HasLowSums}
 use Rattle.xc_pivot.specs.States.{IsShaped, IsAt}
 use Rattle.xc_pivot.specs.declared.types.State.{State}

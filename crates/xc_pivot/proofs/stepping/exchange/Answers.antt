@@ -5,7 +5,7 @@ use Rattle.xc_frac.specs.declared.delta.Delta.{Delta}
 use Rattle.xc_model.specs.Ratio.{Ratio}
 use Rattle.xc_tableau.specs.Exchanges.{PassesIn}
 use Rattle.xc_tableau.specs.Tables.{Table, IsFilled}
-use Rattle.xc_tableau.proofs.Exchanging.{exchanged_same}
+use Rattle.xc_tableau.specs.Exchanges.{IsExchanged}
 use Rattle.xc_pivot.specs.Steps.{AreMoved, replaced}
 use Rattle.xc_pivot.specs.declared.types.Place.{Place}
 use Rattle.xc_pivot.proofs.Exchanges.{next_at, nothing_passes, table_passes}
@@ -58,7 +58,7 @@ returns-clause-shaped c =
     let problem = c.args.problem.now in
     let final = c.replace.new.state in
     let table = c.replace.ensures.table ∙ c.put_value.ensures.table in
-    let exchanged = exchanged_same o.leaving.row o.entering.column c.move_values.new.state.table s.table c.pivot.new.self final.table c.in_default.ensures.table (sym table) c.in_default-pivot.ensures.exchanged in
+    let exchanged = subst (λ v. IsExchanged v o.leaving.row o.entering.column final.table) c.in_default.ensures.table (subst (λ v. IsExchanged c.move_values.new.state.table o.leaving.row o.entering.column v) (sym table) c.in_default-pivot.ensures.exchanged) in
     let values = ap (λ v. length v.items) c.replace.ensures.values ∙ ap (λ (vs : List (Delta Ratio)). length vs) c.put_value.ensures.values ∙ length-set c.move_values.new.state.values.items o.leaving.row c.in-Ok-entering_moved.entering in
     let places = c.replace.ensures.places ∙ ap (λ v. replaced problem o v.items) (c.put_value.ensures.places ∙ c.in_default.ensures.places) in
     record {
@@ -81,7 +81,7 @@ returns-clause-at c x t at chosen =
     let vs = c.move_values.new.state.values.items in
     let laws = c.operations_give_factors.ensures in
     let table = c.replace.ensures.table ∙ c.put_value.ensures.table in
-    let exchanged = exchanged_same o.leaving.row o.entering.column c.move_values.new.state.table s.table c.pivot.new.self final.table c.in_default.ensures.table (sym table) c.in_default-pivot.ensures.exchanged in
+    let exchanged = subst (λ v. IsExchanged v o.leaving.row o.entering.column final.table) c.in_default.ensures.table (subst (λ v. IsExchanged c.move_values.new.state.table o.leaving.row o.entering.column v) (sym table) c.in_default-pivot.ensures.exchanged) in
     let values = ap (λ v. v.items) c.replace.ensures.values ∙ c.put_value.ensures.values in
     let places = c.replace.ensures.places ∙ ap (λ v. replaced problem o v.items) (c.put_value.ensures.places ∙ c.in_default.ensures.places) in
     let step = c.in-Ok.ensures.is x t at in

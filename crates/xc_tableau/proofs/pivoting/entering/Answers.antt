@@ -3,7 +3,8 @@ use Rattle.xc_corners.specs.Operations.{own_divided, other_divided}
 use Rattle.xc_frac.specs.declared.wide.Op.TheVariants.{Div}
 use Rattle.xc_tableau.specs.Exchanges.{PassesIn, IsEntering}
 use Rattle.xc_tableau.specs.Steps.{table}
-use Rattle.xc_tableau.proofs.Exchanging.{has_read, if_ok, if_passes}
+use Rattle.xc_tableau.proofs.Exchanging.{has_read}
+use Rattle.xc_corners.proofs.Operated.{if_ok, if_passes}
 use Rattle.xc_tableau.proofs.pivoting.entering.Goals as goal
 
 pub returns-then-column-pivot-clause-is : goal.returns-then-column-pivot-clause-is

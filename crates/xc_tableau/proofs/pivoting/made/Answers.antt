@@ -3,7 +3,8 @@ use Rattle.xc_corners.specs.Operations.{other_added}
 use Rattle.xc_frac.specs.declared.wide.Op.TheVariants.{Add}
 use Rattle.xc_tableau.specs.Exchanges.{PassesIn, IsMade}
 use Rattle.xc_tableau.specs.Steps.{table}
-use Rattle.xc_tableau.proofs.Exchanging.{has_read, if_fits, if_passes}
+use Rattle.xc_tableau.proofs.Exchanging.{has_read}
+use Rattle.xc_corners.proofs.Operated.{if_fits, if_passes}
 use Rattle.xc_tableau.proofs.pivoting.made.Goals as goal
 
 pub returns-then-column-pivot-clause-is : goal.returns-then-column-pivot-clause-is

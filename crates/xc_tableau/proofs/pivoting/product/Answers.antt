@@ -5,7 +5,7 @@ use Rattle.xc_frac.specs.declared.wide.Op.TheVariants.{Mul}
 use Rattle.xc_tableau.specs.Exchanges.{PassesIn, IsLeaving}
 use Rattle.xc_tableau.specs.Steps.{table}
 use Rattle.xc_tableau.specs.Tables.{Has}
-use Rattle.xc_tableau.proofs.Exchanging.{if_ok, if_passes}
+use Rattle.xc_corners.proofs.Operated.{if_ok, if_passes}
 use Rattle.xc_tableau.proofs.pivoting.product.Goals as goal
 
 pub returns : goal.returns

@@ -1,8 +1,10 @@
--- Where the entries of a table stand.
-use Rattle.std.proofs.Common.{◌≡◌, ◌≢◌, ℕ, ◌+◌, ◌*◌, ◌<◌, ◌≤◌, ◌⊎◌, inl, inr, arith}
+-- Where entries stand that are kept row by row.
+use Rattle.std.proofs.Common.{◌≡◌, ◌≢◌, ℕ, ◌+◌, ◌*◌, ◌<◌, ◌≤◌, ◌⊎◌, List, length, get_or, Some, None, inl, inr, arith, slice_get}
 use Rattle.std.proofs.lemmas.Bool.{cases_order}
 use Rattle.std.proofs.lemmas.Nat.{mul-add-lt}
+use Rattle.std.proofs.lemmas.Option.{slice_get_cases}
 use Rattle.std.proofs.Math.Nat.{mul-le-mul_right}
+use Rattle.xc_model.specs.Ratio.{Ratio}
 
 -- it is among them
 pub place_below : (k j m n : ℕ) → k < m → j < n → k * n + j < m * n
@@ -19,3 +21,11 @@ places_apart k i j h n l m some e = go (cases_order k i)
     go (inl q) = some q
     go (inr (inl q)) = omega (arith, lower_place k i j h n l q)
     go (inr (inr q)) = omega (arith, lower_place i k h j n m q)
+
+-- there is an entry at each place below their number
+pub entry_there : (entries : List Ratio) (n : ℕ) → n < length entries → (f : Ratio) × (slice_get entries n ≡ Some f)
+entry_there entries n h = go (slice_get_cases entries n).1
+  where
+    go : (((x : Ratio) × (n < length entries) × (slice_get entries n ≡ Some x) × (get_or entries n x ≡ x)) ⊎ ((length entries ≤ n) × (slice_get entries n ≡ None))) → (f : Ratio) × (slice_get entries n ≡ Some f)
+    go (inl s) = (s.0, s.2)
+    go (inr s) = absurd (omega (arith, s.0))

@@ -5,7 +5,7 @@ use Rattle.std.proofs.lemmas.List.{length-map}
 use Rattle.std.proofs.lemmas.Option.{slice_get_within, slice_get-get_or}
 use Rattle.std.specs.Prelude.{IsTrue, IsSome, All, is_none, slice_get}
 use Rattle.xc_interval.specs.declared.interval.Interval.{Interval}
-use Rattle.xc_joint.proofs.WideFacts.{owner}
+use Rattle.xc_joint.proofs.Placed.{owner}
 use Rattle.xc_joint.specs.Answers.{ArePartsOf, IsFirstOther, IsOther}
 use Rattle.xc_joint.specs.Causes.{IsCause}
 use Rattle.xc_joint.specs.Kinds.{Answered, IsOutcome, Outcome, Unsettled}

@@ -1,19 +1,13 @@
 -- The operations of an exchange: what they answer, and that each has one answer.
-use Rattle.std.proofs.Common.{◌≡◌, ◌≢◌, ℕ, ◌+◌, ◌*◌, ◌<◌, ◌≤◌, List, length, get_or, Some, None, ◌⊎◌, inl, inr, refl, sym, subst, ◌∙◌, arith, slice_get, Ok, Err, ℤ}
-use Rattle.std.specs.Prelude.{Result, IfOk, IfErr, OnOk, OnErr, slice_set}
+use Rattle.std.proofs.Common.{◌≡◌, ◌≢◌, ℕ, ◌+◌, ◌*◌, ◌<◌, List, length, get_or, Some, refl, sym, subst, ◌∙◌, arith, slice_get}
+use Rattle.std.specs.Prelude.{slice_set}
 use Rattle.std.proofs.lemmas.List.{get_or-set_same, get_or-set_other, length-set}
-use Rattle.std.proofs.lemmas.Option.{slice_get_within, get_or_from_slice_get, slice_get_read, slice_get_cases}
-use Rattle.xc_corners.specs.Operations.{operation, Gives, IsNegativeOf, IsOwnFactor, IsOtherFactor, IsProductFactor, StandsInExchange, own_divided, other_divided, own_times, other_times, other_added}
+use Rattle.std.proofs.lemmas.Option.{slice_get_within, get_or_from_slice_get, slice_get_read}
+use Rattle.xc_corners.specs.Operations.{Gives, IsNegativeOf, IsOwnFactor, IsOtherFactor, IsProductFactor, StandsInExchange, own_divided, other_divided, own_times, other_times, other_added}
 use Rattle.xc_frac.specs.Passes.{Passes}
-use Rattle.xc_frac.specs.declared.wide.Op.{Op}
 use Rattle.xc_frac.specs.declared.wide.Op.TheVariants.{Add, Mul, Div}
 use Rattle.xc_frac.specs.declared.wide.Wide.{Wide}
-use Rattle.xc_model.specs.Fraction.{product_of, neg_of}
-use Rattle.xc_model.specs.Ratio.{Ratio, fraction_of, IsOver}
-use Rattle.xc_model.proofs.LowestTerms.{one_lowest}
-use Rattle.xc_model.proofs.Lowest.{product_fits, quotient_fits}
-use Rattle.xc_model.proofs.Numbers.{same-sym, same-trans, quotient_unique}
-use Rattle.xc_model.proofs.Over.{ratio, over_same}
+use Rattle.xc_model.specs.Ratio.{Ratio}
 use Rattle.xc_tableau.specs.Exchanges.{PassesIn, IsLeaving, IsRest, IsExchanged}
 use Rattle.xc_tableau.specs.Tables.{Table, Has}
 use Rattle.xc_corners.proofs.OneResult.{over_one, negative_one, product_one, quotient_one, product_stays, quotient_stays}

@@ -1,5 +1,5 @@
 -- The operations of an exchange in the table are those at the corner.
-use Rattle.std.proofs.Common.{◌≡◌, ◌≢◌, ℕ, ◌<◌, ◌≤◌, true, false, List, length, get_or, ◌⊎◌, inl, inr, sym, subst, ◌∙◌, arith, Some, None, slice_get}
+use Rattle.std.proofs.Common.{◌≡◌, ◌≢◌, ℕ, ◌+◌, ◌*◌, ◌<◌, ◌≤◌, true, false, List, length, get_or, ◌⊎◌, inl, inr, sym, subst, ◌∙◌, arith, Some, None, slice_get}
 use Rattle.std.proofs.lemmas.Bool.{false≢true}
 use Rattle.std.proofs.lemmas.Option.{slice_get_cases}
 use Rattle.xc_corners.specs.Corners.{variables, Corner, Factors}

@@ -18,11 +18,10 @@ def files_below(top):
     paths, folders = [], [top]
     while folders:
         try:
-            entries = list(os.scandir(folders.pop()))
+            for entry in os.scandir(folders.pop()):
+                (folders if entry.is_dir(follow_symlinks=False) else paths).append(entry.path)
         except OSError:
-            continue
-        for entry in entries:
-            (folders if entry.is_dir(follow_symlinks=False) else paths).append(entry.path)
+            continue  # what it has is missing then
     return sorted(paths)
 
 
@@ -92,10 +91,11 @@ class Folder:
         return [path for path in map(path_of, addresses) if path]
 
     def alike(self, address):
-        """The files with the name of an address that have most of it at the end of their paths."""
+        """The files with the name of an address that have most of it at the end of their paths, and none by a catalog."""
         scheme, host, path = split_address(address)
         parts = [host, *path.strip("/").split("/")]
         paths = self.named.get(parts[-1], []) if scheme in ("http", "https") else []
+        paths = [one for one in paths if not self.origins.of(address_of_file(one))]
         counts = [common_end(parts, os.path.relpath(one, self.top).split("/")) for one in paths]
         most = max(counts, default=0)
         return [one for one, count in zip(paths, counts) if count == most]

@@ -26,6 +26,8 @@ def file_name(path):
 
 def joined(base, reference):
     """The address that a reference means from a base; empty where it is none."""
+    if any(one < " " or one == "\x7f" for one in reference):
+        return ""
     try:
         return urljoin(base, reference)
     except ValueError:

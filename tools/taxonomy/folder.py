@@ -52,6 +52,7 @@ class Folder:
         self.top = os.path.realpath(word)
         self.named = {}
         self.rewrites, self.origins = Starts(), Starts()
+        self.found = {}
         for path in files_below(self.top):
             self.named.setdefault(file_name(path), []).append(path)
 
@@ -102,17 +103,26 @@ class Folder:
 
     def find(self, addresses):
         """The file that one of these addresses leads to, the first first; raises Missing where none does."""
+        if addresses not in self.found:
+            self.found[addresses] = self.sought(addresses)
+        found, why = self.found[addresses]
+        if found is None:
+            raise Missing(why)
+        return found
+
+    def sought(self, addresses):
+        """The same, as that file or None, and why there is none."""
         why = "no file of the folder"
         for address in addresses:
             for path in self.places(address):
                 if not self.has(path):
                     why = "it leaves the folder"
                 elif os.path.isfile(path):
-                    return Found(path, address, False)
+                    return Found(path, address, False), ""
         for address in addresses:
             paths = [] if self.places(address) else self.alike(address)
             if len(paths) > 1:
                 why = "it may be any of " + ", ".join(plain(self.shown(path)) for path in paths)
             elif paths and self.has(paths[0]) and os.path.isfile(paths[0]):
-                return Found(paths[0], address, True)
-        raise Missing(why)
+                return Found(paths[0], address, True), ""
+        return None, why

@@ -9,14 +9,13 @@ use Rattle.xc_interval.specs.declared.ends.End.{End}
 use Rattle.xc_interval.specs.declared.ends.End.TheVariants.{Closed, Open}
 use Rattle.xc_interval.specs.declared.interval.Interval.{Interval}
 use Rattle.xc_model.specs.Ratio.{Ratio, IsOver}
+use Rattle.xc_model.proofs.Rescaled.{over_same_number, over_scaled, over_same_den}
 use Rattle.xc_corners.specs.Corners.{low_bound, high_bound, range_of}
 use Rattle.xc_corners.specs.Laws.{EndBounds, RowBounds}
 use Rattle.xc_corners.specs.Problems.{low_pair, high_pair, zero_range}
 use Rattle.xc_corners.specs.WholeNumbers.{whole, common, times_common, ends_of}
 use Rattle.xc_corners.specs.declared.problem.Problem.{Problem}
 use Rattle.xc_corners.proofs.CommonDenominators.{Divides, common_positive, is_times_common, ends_divide}
-use Rattle.xc_corners.proofs.ExchangeNumbers.{over_same_number, over_scaled}
-use Rattle.xc_corners.proofs.StepNumbers.{over_same_den}
 
 pub range_whole : (problem : Problem) (j : ℕ) (range : Interval Ratio) → slice_get problem.ranges j ≡ Some range → range_of (whole problem) j ≡ between (times_common (common (ends_of problem.ranges))) range
 unfolding whole

@@ -9,22 +9,13 @@ use Rattle.xc_model.specs.Fraction.{IsProductOver}
 use Rattle.xc_model.specs.Ratio.{Ratio, fraction_of, IsOver}
 use Rattle.xc_model.proofs.Integers.{ring, unsigned_abs_some}
 use Rattle.xc_model.proofs.NumbersOver.{over_number, number_over, number_over-same, neg_number, sum_number, product_number, quotient_number}
+use Rattle.xc_model.proofs.Rescaled.{over_same_number, over_scaled}
 use Rattle.xc_corners.specs.Corners.{Factors}
 use Rattle.xc_corners.specs.Operations.{Gives, IsOwnFactor, IsOtherFactor, IsProductFactor, IsFactor}
 use Rattle.xc_corners.specs.Tables.{pivoted, sign}
 use Rattle.xc_corners.proofs.Pivoting.{unsigned_abs-sign, factor_q, factor_other}
 
 -- ---- Results over common denominators.
-
-pub over_same_number : (f : Ratio) (n m : ℤ) (d : ℕ) → IsOver f n d → n ≡ m → IsOver f m d
-over_same_number f n m d h e = record { positive = h.positive; same = h.same ∙ ap (λ z. z *ℤ f.den) e }
-
-scaled_cross : (f n a d k : ℤ) → f *ℤ d ≡ n *ℤ a → f *ℤ (k *ℤ d) ≡ (k *ℤ n) *ℤ a
-scaled_cross f n a d k e = let g : k *ℤ (f *ℤ d) ≡ k *ℤ (n *ℤ a) = ap (λ (z : ℤ). k *ℤ z) e in simp ring (omega (arith, ints, simp ring at g))
-
--- n / d is (k n) / (k d)
-pub over_scaled : (f : Ratio) (n : ℤ) (d k : ℕ) → 0 < k → IsOver f n d → IsOver f (pos k *ℤ n) (k * d)
-over_scaled f n d k p h = record { positive = mul-pos p h.positive; same = scaled_cross f.num n f.den (pos d) (pos k) h.same }
 
 pub sum_gives : (f g r : Ratio) (n m : ℤ) (d : ℕ) → IsOver f n d → IsOver g m d → Gives Add f g r → IsOver r (n +ℤ m) d
 sum_gives f g r n m d left right h = number_over r _ d (number_over-same _ (fraction_of r) _ d h (sum_number (fraction_of f) (fraction_of g) n m d (over_number f n d left) (over_number g m d right)))

@@ -18,6 +18,9 @@ use Rattle.xc_model.proofs.Integers.{ring, scale_lt, scale_le, cancel_lt, mul_po
 use Rattle.xc_model.proofs.Numbers.{den_positive, same-sym, same-trans}
 use Rattle.xc_model.proofs.NumbersOver.{over_number, number_over, number_same}
 use Rattle.xc_model.proofs.Over.{ratio}
+use Rattle.xc_model.proofs.OrdersOver.{below_over, at_most_over}
+use Rattle.xc_model.proofs.Rescaled.{over_scaled}
+use Rattle.xc_model.proofs.Pairs.{same_pairs}
 use Rattle.xc_corners.specs.Answers.{weighed, value_at, Solves}
 use Rattle.xc_corners.specs.Conflicts.{nothing}
 use Rattle.xc_corners.specs.Corners.{variables, low_bound, high_bound, AddUp, Corner, Factors, bound, value, IsWithin}
@@ -31,10 +34,10 @@ use Rattle.xc_corners.specs.declared.problem.Problem.{Problem}
 use Rattle.xc_corners.proofs.Bounds.{end_bounds, range_whole}
 use Rattle.xc_corners.proofs.CommonDenominators.{weights_divide, common_positive}
 use Rattle.xc_corners.proofs.Contradicted.{zero_num}
-use Rattle.xc_corners.proofs.ExchangeNumbers.{over_scaled, sum_gives, product_gives}
+use Rattle.xc_corners.proofs.ExchangeNumbers.{sum_gives, product_gives}
 use Rattle.xc_corners.proofs.FirstNumbers.{row_whole, ranges_whole, rows_whole, unit_positive}
 use Rattle.xc_corners.proofs.Moves.{open_from_problem}
-use Rattle.xc_corners.proofs.Pairs.{antisymmetric, same_pairs}
+use Rattle.xc_corners.proofs.Pairs.{antisymmetric}
 use Rattle.xc_corners.proofs.Refuted.{low_past, high_past}
 use Rattle.xc_corners.proofs.SmallNumbers.{itself, small_below, small_is_positive}
 use Rattle.xc_corners.proofs.Totals.{total_same, total_plus, total_scale_right}
@@ -94,29 +97,6 @@ below_high o n m e f r s hn hm hf k q = turn_less o (m *ℤ e) (m *ℤ r +ℤ n 
     turned (inr h) = inr (omega (arith, ints, h.0), omega (arith, ints, h.1))
 
 -- ---- what that says of fractions
-pub below_over : (x y : Fraction) (n m : ℤ) (d : ℕ) → IsNumberOver x n d → IsNumberOver y m d → n <ℤ m → IsBelow x y
-below_over x y n m d h k l = record {
-  cross = cancel_lt (pos d) _ _ (omega (arith, ints, h.positive)) (ordered x.num (pos x.den) y.num (pos y.den) n m (pos d) (mul_positive (pos x.den) (pos y.den) (den_positive x) (den_positive y)) h.cross k.cross l);
-}
-  where
-    ordered : (a b c e n m d : ℤ) → pos 0 <ℤ (b *ℤ e) → a *ℤ d ≡ n *ℤ b → c *ℤ d ≡ m *ℤ e → n <ℤ m → (d *ℤ (a *ℤ e)) <ℤ (d *ℤ (c *ℤ b))
-    ordered a b c e n m d p h k l =
-        let left : d *ℤ (a *ℤ e) ≡ (a *ℤ d) *ℤ e = simp ring in
-        let left' : (n *ℤ b) *ℤ e ≡ (b *ℤ e) *ℤ n = simp ring in
-        let right : d *ℤ (c *ℤ b) ≡ (c *ℤ d) *ℤ b = simp ring in
-        let right' : (m *ℤ e) *ℤ b ≡ (b *ℤ e) *ℤ m = simp ring in
-        let one = left ∙ ap (λ z. z *ℤ e) h ∙ left' in
-        let other = right ∙ ap (λ z. z *ℤ b) k ∙ right' in
-        omega (arith, ints, one, other, scale_lt (b *ℤ e) n m p l)
-
-pub same_over : (x y : Fraction) (n m : ℤ) (d : ℕ) → IsNumberOver x n d → IsNumberOver y m d → n ≡ m → SameNumber x y
-same_over x y n m d h k e =
-    let right : IsNumberOver y n d = subst (λ z. IsNumberOver y z d) (sym e) k in
-    same-trans x (ratio n d h.positive) y (number_same x n d h) (same-sym y (ratio n d h.positive) (record { cross = right.cross }))
-
-at_most_over : (x y : Fraction) (n m : ℤ) (d : ℕ) → IsNumberOver x n d → IsNumberOver y m d → n ≤ℤ m → IsBelow x y ⊎ SameNumber x y
-at_most_over x y n m d h k l = by_lt_z n m (λ less. inl (below_over x y n m d h k less)) (λ other. inr (same_over x y n m d h k (omega (arith, ints, l, other))))
-
 past_end : (e : End Ratio) (v : Fraction) (n m : ℤ) (d : ℕ) → IsNumberOver (fraction_of (value_of e)) n d → IsNumberOver v m d → IsLess (is_open e) n m → IsPast IsBelow SameNumber (end_at (λ f. fraction_of f) e) v
 past_end (Closed e) v n m d h k l = at_most_over (fraction_of e) v n m d h k l
 past_end (Open e) v n m d h k l = below_over (fraction_of e) v n m d h k l

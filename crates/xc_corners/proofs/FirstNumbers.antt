@@ -7,6 +7,7 @@ use Rattle.std.proofs.lemmas.List.{length-map}
 use Rattle.std.proofs.Math.Nat.{mul-pos}
 use Rattle.xc_interval.specs.Intervals.{between}
 use Rattle.xc_model.specs.Ratio.{Ratio, IsOver}
+use Rattle.xc_model.proofs.Rescaled.{over_same_number, over_scaled, over_same_den}
 use Rattle.xc_corners.specs.Choices.{first}
 use Rattle.xc_corners.specs.Corners.{variables, low_bound, bound, value, spread}
 use Rattle.xc_corners.specs.Operations.{AddsUp, IsSumOf, weights_of_range, entries_of, IsFactor, IsValuePart, IsLowPart, IsLowSum, part}
@@ -16,9 +17,9 @@ use Rattle.xc_corners.specs.Tables.{first_factors}
 use Rattle.xc_corners.specs.WholeNumbers.{whole, common, times_common, ends_of, weights_of}
 use Rattle.xc_corners.specs.declared.problem.Problem.{Problem}
 use Rattle.xc_corners.proofs.CommonDenominators.{Divides, AllDivide, common_positive, is_times_common, weights_divide}
-use Rattle.xc_corners.proofs.ExchangeNumbers.{over_same_number, sum_gives, product_gives, over_scaled}
+use Rattle.xc_corners.proofs.ExchangeNumbers.{sum_gives, product_gives}
 use Rattle.xc_corners.proofs.FirstCorner.{first_basic, first_other, first_sum_below}
-use Rattle.xc_corners.proofs.StepNumbers.{over_same_den, value_part}
+use Rattle.xc_corners.proofs.StepNumbers.{value_part}
 use Rattle.xc_corners.proofs.Values.{spread_at_basic, spread_at_other}
 
 -- what the entries count for range j, times d

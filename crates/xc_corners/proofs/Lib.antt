@@ -11,12 +11,9 @@ pub mod Moves
 pub mod NeverBack
 pub mod NextValues
 pub mod OneChoice
-pub mod OneResult
-pub mod Operated
 pub mod Pairs
 pub mod Pivoting
 pub mod Refuted
-pub mod RowPlaces
 pub mod Runs
 pub mod SmallNumbers
 pub mod SolvedForms

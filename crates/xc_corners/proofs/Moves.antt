@@ -5,11 +5,12 @@ use Rattle.std.proofs.lemmas.Bool.Decides.{Decides-int_eq}
 use Rattle.std.proofs.lemmas.List.{get_or_past}
 use Rattle.std.specs.Ordering.{int_eq}
 use Rattle.xc_model.specs.Parts.{WholeParts}
+use Rattle.xc_model.proofs.Pairs.{same_pairs}
 use Rattle.xc_corners.specs.Choices.{is_same_pair, exchanged, Exchange, Moves}
 use Rattle.xc_corners.specs.Corners.{low_bound, high_bound, Corner, range_of}
 use Rattle.xc_corners.specs.Pairs.{◌≼◌}
 use Rattle.xc_corners.specs.Problems.{WholeProblem, IsWholeProblem, low_pair, high_pair, zero_range}
-use Rattle.xc_corners.proofs.Pairs.{same_pairs, le_refl}
+use Rattle.xc_corners.proofs.Pairs.{le_refl}
 
 -- no variable's range is empty
 abbrev pub IsOpen : WholeProblem → Type 0
@@ -76,10 +77,3 @@ pub moves_keep : (p : WholeProblem) (r n : ℕ) (x y : Corner) → Moves p r n x
 moves_keep p r zero x y m = rw (← m) record { basic = λ j l. refl; high = λ j l. refl }
 moves_keep p r (suc n) x y m = Keeps_then r x m.0 y (exchange_keeps p r x m.1 m.2 m.0 m.3 m.4 m.5) (moves_keep p r n m.0 y m.6)
 
-pub pair_cases : (a b : WholeParts) → (a ≡ b) ⊎ (a ≢ b)
-pair_cases a b = go (cases_Bool (int_eq a.real b.real)) (cases_Bool (int_eq a.tiny b.tiny))
-  where
-    go : ((int_eq a.real b.real ≡ true) ⊎ (int_eq a.real b.real ≡ false)) → ((int_eq a.tiny b.tiny ≡ true) ⊎ (int_eq a.tiny b.tiny ≡ false)) → (a ≡ b) ⊎ (a ≢ b)
-    go (inl e) (inl f) = inl (same_pairs a b ((Decides-int_eq a.real b.real).0 e) ((Decides-int_eq a.tiny b.tiny).0 f))
-    go (inr e) f = inr (λ k. false≢true (sym e ∙ (Decides-int_eq a.real b.real).1 (ap (λ (c : WholeParts). c.real) k)))
-    go (inl e) (inr f) = inr (λ k. false≢true (sym f ∙ (Decides-int_eq a.tiny b.tiny).1 (ap (λ (c : WholeParts). c.tiny) k)))

@@ -4,12 +4,13 @@ use Rattle.std.proofs.lemmas.Int.{ints, by_lt_z}
 use Rattle.std.proofs.lemmas.Bool.{cases_order}
 use Rattle.xc_model.specs.Parts.{WholeParts}
 use Rattle.xc_model.proofs.Integers.{mul_left_comm}
+use Rattle.xc_model.proofs.Pairs.{pair_cases, same_pairs}
 use Rattle.xc_corners.specs.Choices.{Leaves, Helps, Enters, Exchange, Moves}
 use Rattle.xc_corners.specs.Corners.{variables, low_bound, high_bound, Corner, Factors, sum_for, IsSolvedForm, bound, value, IsWithin}
 use Rattle.xc_corners.specs.Pairs.{◌≺◌, ◌≼◌, times}
 use Rattle.xc_corners.specs.Problems.{WholeProblem}
-use Rattle.xc_corners.proofs.Moves.{IsOpen, Keeps, Keeps_then, moves_keep, kept_basic, kept_high, left_high, pair_cases}
-use Rattle.xc_corners.proofs.Pairs.{positive_pos, Ord, Ord_from_strict, StrictOrd, Ord_same, Ord_clash, times_le, times_lt, times_turn_le, times_turn_lt, times_times, antisymmetric, same_pairs}
+use Rattle.xc_corners.proofs.Moves.{IsOpen, Keeps, Keeps_then, moves_keep, kept_basic, kept_high, left_high}
+use Rattle.xc_corners.proofs.Pairs.{positive_pos, Ord, Ord_from_strict, StrictOrd, Ord_same, Ord_clash, times_le, times_lt, times_turn_le, times_turn_lt, times_times, antisymmetric}
 use Rattle.xc_corners.proofs.Sums.{sum_same, sum_scale, pair_sum, pair_sum_lt}
 use Rattle.xc_corners.proofs.Values.{spread_meets, spread_at_basic, value_at_other, bound_within, lesser_within}
 

@@ -5,12 +5,13 @@ use Rattle.std.proofs.lemmas.Int.{ints}
 use Rattle.std.proofs.lemmas.Bool.{cases_eq, eq-eqb, ne_eqb, false≢true}
 use Rattle.xc_model.specs.Parts.{WholeParts}
 use Rattle.xc_model.proofs.Integers.{ring, mul_left_comm, unsigned_abs_some}
+use Rattle.xc_model.proofs.Pairs.{pair_cases}
 use Rattle.xc_corners.specs.Choices.{exchanged}
 use Rattle.xc_corners.specs.Corners.{variables, low_bound, high_bound, Corner, Factors, IsSolvedForm, bound, spread}
 use Rattle.xc_corners.specs.Operations.{passed_bound}
 use Rattle.xc_corners.specs.Problems.{WholeProblem}
 use Rattle.xc_corners.specs.Tables.{pivoted, sign}
-use Rattle.xc_corners.proofs.Moves.{kept_basic, kept_high, left_basic, left_high, pair_cases}
+use Rattle.xc_corners.proofs.Moves.{kept_basic, kept_high, left_basic, left_high}
 use Rattle.xc_corners.proofs.Pairs.{cancel_positive}
 use Rattle.xc_corners.proofs.Pivoting.{rest_for, sum_before, exchange_solves, unsigned_abs-sign, over_is}
 use Rattle.xc_corners.proofs.Sums.{sum_same, sum_scale}

@@ -4,12 +4,13 @@ use Rattle.std.proofs.lemmas.Int.{ints, by_lt_z}
 use Rattle.std.proofs.lemmas.Bool.{cases_order}
 use Rattle.xc_model.specs.Parts.{WholeParts}
 use Rattle.xc_model.proofs.Integers.{ring, scale_lt, scale_le}
+use Rattle.xc_model.proofs.Pairs.{same_pairs}
 use Rattle.xc_corners.specs.Choices.{Leaves, Helps, CanEnter, Enters, exchanged, Exchange}
 use Rattle.xc_corners.specs.Corners.{variables, low_bound, high_bound, Corner, Factors, IsSolvedForm, spread, value, IsWithin, IsOutside}
 use Rattle.xc_corners.specs.Pairs.{◌≺◌, ◌≼◌, times}
 use Rattle.xc_corners.specs.Problems.{WholeProblem, IsWholeProblem}
 use Rattle.xc_corners.proofs.Moves.{IsOpen, open_from_problem}
-use Rattle.xc_corners.proofs.Pairs.{times_le, times_times, irreflexive, le_from_lt, lt_le, le_le, positive_pos, same_pairs, pair_order, cancel_le_pair}
+use Rattle.xc_corners.proofs.Pairs.{times_le, times_times, irreflexive, le_from_lt, lt_le, le_le, positive_pos, pair_order, cancel_le_pair}
 use Rattle.xc_corners.proofs.SolvedForms.{one_solved_form}
 use Rattle.xc_corners.proofs.Values.{spread_meets, spread_at_basic, spread_at_other, sum_for_same, sum_for_scale}
 

@@ -3,6 +3,7 @@ use Rattle.std.proofs.Common.{◌≡◌, ℕ, ◌<◌, Bool, true, false, ℤ, p
 use Rattle.std.proofs.lemmas.Int.{ints}
 use Rattle.xc_model.specs.Parts.{WholeParts, whole_sum}
 use Rattle.xc_model.proofs.Integers.{ring, scale_lt, turn_lt, cancel}
+use Rattle.xc_model.proofs.Pairs.{same_pairs}
 use Rattle.xc_corners.specs.Pairs.{◌≺◌, ◌≼◌, times}
 
 pub le_refl : (a : WholeParts) → a ≼ a
@@ -25,9 +26,6 @@ le_lt a b c h k = grind (arith, ints)
 
 pub irreflexive : (a : WholeParts) → a ≺ a → ⊥
 irreflexive a h = grind (arith, ints)
-
-pub same_pairs : (a b : WholeParts) → a.real ≡ b.real → a.tiny ≡ b.tiny → a ≡ b
-same_pairs a b e f = λ i. record { real = e i; tiny = f i }
 
 pub antisymmetric : (a b : WholeParts) → a ≼ b → b ≼ a → a ≡ b
 antisymmetric a b h k = same_pairs a b (grind (arith, ints)) (grind (arith, ints))

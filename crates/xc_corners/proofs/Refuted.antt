@@ -7,13 +7,13 @@ use Rattle.std.proofs.Math.Nat.{add-suc, add-zero}
 use Rattle.xc_interval.specs.declared.interval.Interval.{Interval}
 use Rattle.xc_model.specs.Parts.{WholeParts}
 use Rattle.xc_model.proofs.Integers.{ring}
+use Rattle.xc_model.proofs.Pairs.{pair_cases}
 use Rattle.xc_corners.specs.Choices.{Helps, IsConflict}
 use Rattle.xc_corners.specs.Conflicts.{turned, multiplier, end_of, combined, left_over, nothing, Refutes}
 use Rattle.xc_corners.specs.Corners.{variables, AddUp, Corner, Factors, sum_for, IsSolvedForm, low_bound, high_bound, bound, value, IsOutside}
 use Rattle.xc_corners.specs.Operations.{passed_bound}
 use Rattle.xc_corners.specs.Pairs.{◌≺◌, times, sum_below}
 use Rattle.xc_corners.specs.Problems.{WholeProblem, IsWholeProblem, total, unit_at, row_at, low_pair, high_pair, zero_range}
-use Rattle.xc_corners.proofs.Moves.{pair_cases}
 use Rattle.xc_corners.proofs.NeverBack.{at_most, at_least}
 use Rattle.xc_corners.proofs.Sums.{sum_same, sum_scale, sum_more, sum_at, sum_of_zeros, without}
 use Rattle.xc_corners.proofs.Totals.{total_same, total_scale_right}

@@ -9,13 +9,13 @@ use Rattle.xc_model.specs.Ratio.{Ratio, fraction_of}
 use Rattle.xc_model.proofs.Integers.{ring, scale_le, cancel_le, cancel_lt, mul_positive}
 use Rattle.xc_model.proofs.Numbers.{den_positive}
 use Rattle.xc_model.proofs.NumbersOver.{over_number, number_over-same, neg_number, sum_number, quotient_number}
+use Rattle.xc_model.proofs.Rescaled.{over_scaled}
 use Rattle.xc_corners.specs.Corners.{Corner, Factors, IsSolvedForm, value}
 use Rattle.xc_corners.specs.Ending.{margin_taken, IsTight, IsMargin, IsQuotientAt, IsLeastQuotient, IsHalf, IsSmallNumber}
 use Rattle.xc_corners.specs.Operations.{Gives, part, passed_bound}
 use Rattle.xc_corners.specs.Problems.{WholeProblem}
 use Rattle.xc_corners.specs.WholeNumbers.{whole}
 use Rattle.xc_corners.specs.declared.problem.Problem.{Problem}
-use Rattle.xc_corners.proofs.ExchangeNumbers.{over_scaled}
 
 -- what the subtraction of a bound and a value gives, in whole numbers
 abbrev pub margin : Bool → Bool → ℤ → ℤ → ℤ

@@ -7,18 +7,16 @@ use Rattle.xc_frac.specs.declared.wide.Op.TheVariants.{Add}
 use Rattle.xc_model.specs.Ratio.{Ratio, fraction_of, IsOver}
 use Rattle.xc_model.proofs.Integers.{ring, unsigned_abs_some}
 use Rattle.xc_model.proofs.NumbersOver.{over_number, number_over, number_over-same, neg_number, sum_number, quotient_number}
+use Rattle.xc_model.proofs.Rescaled.{over_same_number, over_same_den, over_scaled}
 use Rattle.xc_corners.specs.Choices.{exchanged}
 use Rattle.xc_corners.specs.Corners.{variables, Corner, Factors, IsSolvedForm, value, bound, spread}
 use Rattle.xc_corners.specs.Operations.{Gives, IsValuePart, IsGap, IsStep, IsMove, part, passed_bound}
 use Rattle.xc_corners.specs.Problems.{WholeProblem}
 use Rattle.xc_corners.specs.Tables.{pivoted, sign}
-use Rattle.xc_corners.proofs.ExchangeNumbers.{over_same_number, over_scaled, sum_gives, product_gives}
+use Rattle.xc_corners.proofs.ExchangeNumbers.{sum_gives, product_gives}
 use Rattle.xc_corners.proofs.NextValues.{next_at, next_q, next_basic, next_b, next_other, at_x, at_y}
 use Rattle.xc_corners.proofs.Pivoting.{unsigned_abs-sign}
 use Rattle.xc_corners.proofs.Values.{spread_at_other}
-
-pub over_same_den : (f : Ratio) (n : ℤ) (d e : ℕ) → IsOver f n d → d ≡ e → IsOver f n e
-over_same_den f n d e h g = subst (IsOver f n) g h
 
 -- a part of a value is the spread of that part of the bounds
 pub value_part : (p : WholeProblem) (x : Corner) (t : Factors) (c : Bool) (j : ℕ) → part c (value p x t j) ≡ spread p x t (λ k. part c (bound p x k)) j

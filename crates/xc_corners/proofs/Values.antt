@@ -2,12 +2,13 @@
 use Rattle.std.proofs.Common.{◌≡◌, ℕ, ◌<◌, Bool, true, false, cond, ℤ, pos, ◌*ℤ◌, refl, ◌∙◌, arith}
 use Rattle.std.proofs.lemmas.Int.{ints}
 use Rattle.xc_model.proofs.Integers.{mul_left_comm}
+use Rattle.xc_model.proofs.Pairs.{same_pairs}
 use Rattle.xc_corners.specs.Choices.{Leaves}
 use Rattle.xc_corners.specs.Corners.{variables, low_bound, high_bound, AddUp, Corner, Factors, sum_for, IsSolvedForm, bound, spread, value, IsWithin}
 use Rattle.xc_corners.specs.Pairs.{◌≼◌, times}
 use Rattle.xc_corners.specs.Problems.{WholeProblem}
 use Rattle.xc_corners.proofs.Moves.{IsOpen}
-use Rattle.xc_corners.proofs.Pairs.{same_pairs, le_refl, times_le}
+use Rattle.xc_corners.proofs.Pairs.{le_refl, times_le}
 use Rattle.xc_corners.proofs.Sums.{sum_same, sum_scale}
 
 -- ---- the values at a corner meet the definitions

@@ -22,9 +22,6 @@ le_lt a b c h k = grind (arith, ints)
 pub irreflexive : (a : WholeParts) → ¬ (a ≺ a)
 irreflexive a h = grind (arith, ints)
 
-pub same_pairs : (a b : WholeParts) → a.real ≡ b.real → a.tiny ≡ b.tiny → a ≡ b
-same_pairs a b e f = λ i. record { real = e i; tiny = f i }
-
 pub le_or_gt : (x y : WholeParts) → (x ≼ y) ⊎ (y ≺ x)
 le_or_gt x y = by_lt_z x.real y.real (λ h. inl (inl h)) (λ h. by_lt_z y.real x.real (λ k. inr (inl k)) (λ k. same (omega (arith, ints))))
   where

@@ -4,6 +4,7 @@ use Rattle.std.proofs.Math.Seq.{drop-length}
 use Rattle.std.proofs.lemmas.Int.{ints}
 use Rattle.std.proofs.lemmas.List.{length-map, length-take-le, length-drop, get_or-map, get_or-take, get_or-drop, get_or_past}
 use Rattle.xc_model.proofs.Integers.{lt_or_le, mul_comm, scale_lt}
+use Rattle.xc_model.proofs.Pairs.{same_pairs}
 use Rattle.xc_forest.specs.Forests.{AreRows, AreRanges, Solves, Contradicts, IsUnit, range_at, ranges_of, row_at, row_total, row_sum, signed, turn, unit_at, value_at, sum_below, named_end, multiplier_at, points_of}
 use Rattle.xc_lists.specs.Members.{IsIn}
 use Rattle.xc_forest.specs.Steps.Links.{graph_of, weigh_of, vertices, IsListing}
@@ -15,7 +16,7 @@ use Rattle.xc_forest.specs.declared.spans.Bounds.{Bounds}
 use Rattle.xc_forest.specs.declared.types.Forest.{Forest}
 use Rattle.xc_forest.specs.declared.undos.Undo.{Undo}
 use Rattle.xc_forest.proofs.ListedSums.{same_below, row_by_weights, points_listed, rows_listed, row_weight}
-use Rattle.xc_forest.proofs.PairOrder.{le_refl, le_or_gt, same_pairs}
+use Rattle.xc_forest.proofs.PairOrder.{le_refl, le_or_gt}
 use Rattle.xc_forest.proofs.PointSteps.{no_weight}
 use Rattle.xc_forest.proofs.Scales.{positive_scale, first_low, first_high, first_none, zero_parts_over, sum_parts_over, neg_parts_over, same_over, parts_below_over}
 use Rattle.xc_forest.proofs.SignedSums.{signed_of}

@@ -4,10 +4,11 @@ use Rattle.std.proofs.Common.{◌≡◌, ◌≢◌, ℕ, Bool, true, false, List
 use Rattle.std.proofs.lemmas.Int.{ints}
 use Rattle.std.proofs.lemmas.Bool.{cases_eq, false≢true}
 use Rattle.xc_model.specs.Parts.{WholeParts}
+use Rattle.xc_model.proofs.Pairs.{same_pairs}
 use Rattle.xc_forest.specs.Forests.{Choice, Neither, Plus, Minus, turn, IsUnit}
 use Rattle.xc_lists.specs.Members.{IsIn, IsOnce}
 use Rattle.xc_forest.specs.Steps.Vertices.{sum_over, part, Span, end, IsWithin, worth, turned, Graph, IsSumWithout, IsEnd, IsMeet, IsLeafRow, Settles, Refutes, bound}
-use Rattle.xc_forest.proofs.PairOrder.{le_le, same_pairs}
+use Rattle.xc_forest.proofs.PairOrder.{le_le}
 use Rattle.xc_forest.proofs.Sums.{sum_same, sum_zero, sum_single, sum_change, apart}
 use Rattle.xc_forest.proofs.Points.{signed, worth_signed, with_end, put, put_same, put_other}
 use Rattle.xc_forest.proofs.PointSteps.{weight_times, no_weight}

@@ -7,10 +7,10 @@ use Rattle.std.proofs.lemmas.List.{get_or_past}
 use Prim.Native.Nat.{◌∣◌}
 use native.Mathlib.Nat.{mul-div_cancel'}
 use lib.IntN.{zero-*ℤ}
+use Rattle.xc_model.proofs.Pairs.{same_pairs}
 use Rattle.xc_forest.specs.Forests.{range_at, parts_below, sum_below, worth_of, Choice, Neither, Plus, Minus}
 use Rattle.xc_forest.specs.Steps.Scaled.{scale_of_pair, scale_of, times_scale, whole_over, span_over, first_spans}
 use Rattle.xc_forest.specs.Steps.Vertices.{Span, no_span, no_parts, part, worth}
-use Rattle.xc_forest.proofs.PairOrder.{same_pairs}
 use Rattle.xc_interval.specs.Ends.{value_of}
 use Rattle.xc_interval.specs.declared.ends.End.TheVariants.{Closed}
 use Rattle.xc_interval.specs.declared.interval.Interval.{Interval}

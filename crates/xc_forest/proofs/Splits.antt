@@ -2,10 +2,10 @@
 use Rattle.std.proofs.Common.{◌≡◌, Bool, true, false, not, ◌+ℤ◌, inl, inr, refl, arith}
 use Rattle.std.proofs.lemmas.Int.{ints}
 use Rattle.xc_model.specs.Parts.{WholeParts}
+use Rattle.xc_model.proofs.Pairs.{same_pairs}
 use Rattle.xc_forest.specs.Forests.{turn}
 use Rattle.xc_forest.specs.Steps.Vertices.{◌≼◌, part, Span, end, IsWithin, lessened, IsEnd}
 use Rattle.xc_forest.specs.Steps.Splits.{IsRest, IsSplit}
-use Rattle.xc_forest.proofs.PairOrder.{same_pairs}
 
 pub same_parts : (x y : WholeParts) → ((c : Bool) → part c x ≡ part c y) → x ≡ y
 same_parts x y h = same_pairs x y (h false) (h true)

@@ -6,5 +6,7 @@ pub mod Lacking
 pub mod ListsOfImages
 pub mod Members
 pub mod Onces
+pub mod Outcomes
 pub mod Positions
 pub mod Ranges
+pub mod RowPlaces

@@ -7,6 +7,10 @@ pub mod LowestTerms
 pub mod Numbers
 pub mod NumbersOver
 pub mod Orders
+pub mod OrdersOver
 pub mod Over
+pub mod Pairs
 pub mod Quotients
+pub mod Rescaled
+pub mod Results
 pub mod Signs

@@ -1,6 +1,7 @@
 -- What the last corner answers.
 use Rattle.std.proofs.Common.{◌≡◌, ℕ, zero, suc, ◌+◌, Bool, List, Ok, Err, length, inl, inr, ⊎_elim, refl, sym, subst}
 use Rattle.std.specs.Prelude.{Result, IfOk}
+use Rattle.xc_model.proofs.Results.{over_one, quotient_one}
 use Rattle.xc_corners.specs.Choices.{Leaves, Exchange, Exchanges, first, IsReached, IsFeasible, IsConflict}
 use Rattle.xc_corners.specs.Corners.{Corner, Factors, corner_of, IsSolvedForm}
 use Rattle.xc_corners.specs.Ending.{IsSmallNumber, StandsInSmall, StandsInValue, StandsInValues}
@@ -16,7 +17,6 @@ use Rattle.xc_frac.specs.declared.wide.Wide.{Wide}
 use Rattle.xc_frac.specs.declared.wide.Op.TheVariants.{Div}
 use Rattle.xc_corners.specs.Operations.{Gives}
 use Rattle.xc_model.specs.Ratio.{Ratio}
-use Rattle.xc_corners.proofs.OneResult.{over_one, quotient_one}
 use Rattle.xc_pivot.specs.SmallValues.{SmallStays, ValuesStay, PassesFeasible}
 use Rattle.xc_pivot.specs.Solving.{NothingStops, StopsAt, IfFeasible, IfInfeasible, IfStopped}
 use Rattle.xc_pivot.specs.States.{ArePlaces, HasNoChoice}

@@ -9,6 +9,8 @@ use Rattle.std.specs.Ordering.{int_eq}
 use Rattle.std.specs.Int.Signed.{lt_z}
 use Rattle.std.specs.Prelude.{IsTrue, T}
 use mathlib.Core.Bool.{beq}
+use Rattle.xc_model.proofs.Rescaled.{over_scaled, over_same_number}
+use Rattle.xc_model.proofs.Pairs.{pair_cases}
 use Rattle.xc_corners.specs.Choices.{Helps, is_same_pair}
 use Rattle.xc_corners.specs.Corners.{low_bound, high_bound}
 use Rattle.xc_corners.specs.Laws.{HasEndBounds}
@@ -16,8 +18,6 @@ use Rattle.xc_corners.specs.Operations.{part}
 use Rattle.xc_corners.specs.Pairs.{◌≺◌, ◌≼◌, times}
 use Rattle.xc_corners.specs.WholeNumbers.{whole}
 use Rattle.xc_corners.specs.declared.problem.Problem.{Problem}
-use Rattle.xc_corners.proofs.Moves.{pair_cases}
-use Rattle.xc_corners.proofs.ExchangeNumbers.{over_scaled, over_same_number}
 use Rattle.xc_interval.specs.Ends.{value_of, is_open}
 use Rattle.xc_interval.specs.declared.interval.Interval.{Interval}
 use Rattle.xc_model.specs.Order.{SameSign}

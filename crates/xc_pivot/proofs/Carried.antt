@@ -2,6 +2,8 @@
 use Rattle.std.proofs.Common.{◌≡◌, ◌≢◌, ℕ, ◌+◌, ◌*◌, ◌<◌, ◌≤◌, true, false, List, length, get_or, ◌⊎◌, inl, inr, sym, subst, ◌∙◌, arith, Some, None, slice_get}
 use Rattle.std.proofs.lemmas.Bool.{false≢true}
 use Rattle.std.proofs.lemmas.Option.{slice_get_cases}
+use Rattle.xc_model.proofs.Results.{over_one}
+use Rattle.xc_lists.proofs.RowPlaces.{entry_there, place_below}
 use Rattle.xc_corners.specs.Corners.{variables, Corner, Factors}
 use Rattle.xc_corners.specs.Operations.{IsOwnFactor, IsOtherFactor, IsProductFactor, IsFactor, IsBasic, IsOther, StandsInExchange, own_divided, other_divided, own_times, other_times, other_added}
 use Rattle.xc_corners.specs.Problems.{WholeProblem}
@@ -10,8 +12,6 @@ use Rattle.xc_corners.specs.declared.problem.Problem.{Problem}
 use Rattle.xc_frac.specs.declared.wide.Wide.{Wide}
 use Rattle.xc_model.specs.Ratio.{Ratio}
 use Rattle.xc_tableau.specs.Tables.{Table, Has, IsFilled}
-use Rattle.xc_corners.proofs.RowPlaces.{entry_there, place_below}
-use Rattle.xc_corners.proofs.OneResult.{over_one}
 use Rattle.xc_pivot.specs.States.{HasRow, HasColumn, ArePlaces, AreFactors, IsAt}
 use Rattle.xc_pivot.specs.Steps.{AreBasicAt}
 use Rattle.xc_pivot.specs.declared.types.Choice.{Choice}

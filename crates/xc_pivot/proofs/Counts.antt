@@ -3,10 +3,9 @@ use Rattle.std.proofs.Common.{◌≡◌, ◌≢◌, ℕ, zero, suc, ◌<◌, Boo
 use Rattle.std.specs.Prelude.{not}
 use Rattle.std.proofs.lemmas.Int.{ints}
 use Rattle.std.proofs.lemmas.Bool.{eq-eqb, ne_eqb}
+use Rattle.xc_model.proofs.Rescaled.{over_same_number, over_scaled, over_same_den}
 use Rattle.xc_corners.specs.Conflicts.{turned, multiplier}
 use Rattle.xc_corners.specs.Corners.{Corner, Factors}
-use Rattle.xc_corners.proofs.ExchangeNumbers.{over_same_number, over_scaled}
-use Rattle.xc_corners.proofs.StepNumbers.{over_same_den}
 use Rattle.xc_model.specs.Ratio.{Ratio, IsOver}
 
 turned_back : (a : Bool) (n : ℤ) → turned (not a) n ≡ turned a (neg_ℤ n)

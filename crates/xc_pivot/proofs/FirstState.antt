@@ -3,6 +3,7 @@ use Rattle.std.proofs.Common.{◌≡◌, ℕ, ◌+◌, ◌<◌, ◌≤◌, List,
 use Rattle.std.proofs.lemmas.Bool.{cases_lt}
 use Rattle.std.proofs.lemmas.List.{get_or_past}
 use Rattle.std.proofs.lemmas.Option.{slice_get_within}
+use Rattle.xc_model.proofs.Results.{over_one, product_stays}
 use Rattle.xc_corners.specs.Choices.{first}
 use Rattle.xc_corners.specs.Corners.{variables, value}
 use Rattle.xc_corners.specs.Laws.{FirstFactors, FirstRowValues}
@@ -16,7 +17,6 @@ use Rattle.xc_frac.specs.Passes.{Passes}
 use Rattle.xc_frac.specs.declared.wide.Op.TheVariants.{Mul}
 use Rattle.xc_frac.specs.declared.wide.Wide.{Wide}
 use Rattle.xc_model.specs.Ratio.{Ratio}
-use Rattle.xc_corners.proofs.OneResult.{over_one, product_stays}
 use Rattle.xc_pivot.specs.Deltas.{of_part, ArePartsOf}
 use Rattle.xc_pivot.specs.Firsts.{PassesFirst, HasSums, RowsStay, LowStays, HasLowSums, AreFirstPlaces}
 use Rattle.xc_pivot.specs.States.{HasColumn, IsShaped, IsAt}

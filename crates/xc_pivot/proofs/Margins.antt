@@ -2,12 +2,13 @@
 use Rattle.std.proofs.Common.{◌≡◌, ◌≢◌, ℕ, ◌*◌, ◌<◌, Bool, true, false, ℤ, pos, neg_ℤ, ◌+ℤ◌, ◌*ℤ◌, ◌<ℤ◌, Some, None, Ok, Err, inl, inr, ◌⊎◌, refl, sym, ap, subst, ◌∙◌, arith}
 use Rattle.std.specs.Prelude.{not, Option, Result, IfOk, IfErr, OnOk}
 use Rattle.std.proofs.lemmas.Int.{ints}
+use Rattle.xc_model.proofs.Results.{over_one, quotient_one, quotient_stays}
+use Rattle.xc_model.proofs.OrdersOver.{below_over}
 use Rattle.xc_corners.specs.Corners.{Corner, Factors, value as value_at}
 use Rattle.xc_corners.specs.Ending.{IsTightAt, margin_taken, IsLimitPart, IsTight, IsMargin, IsQuotientAt, margin, divided}
 use Rattle.xc_corners.specs.Operations.{operation, Gives, IsValuePart, passed_bound}
 use Rattle.xc_corners.specs.Pairs.{times}
 use Rattle.xc_corners.specs.Problems.{WholeProblem}
-use Rattle.xc_corners.proofs.FeasibleValues.{below_over}
 use Rattle.xc_frac.specs.Passes.{Passes}
 use Rattle.xc_frac.specs.declared.delta.Delta.{Delta}
 use Rattle.xc_frac.specs.declared.wide.Op.TheVariants.{Sub, Div}
@@ -18,7 +19,6 @@ use Rattle.xc_model.specs.Ratio.{Ratio, fraction_of}
 use Rattle.xc_model.proofs.Integers.{mul_positive, neg-mul}
 use Rattle.xc_model.proofs.Numbers.{den_positive}
 use Rattle.xc_model.proofs.NumbersOver.{over_number, below_number}
-use Rattle.xc_corners.proofs.OneResult.{over_one, quotient_one, quotient_stays}
 use Rattle.xc_pivot.specs.Deltas.{of_part, GivesEach, ArePartsOf, PassesOne}
 use Rattle.xc_pivot.specs.Quotients.{mixed, ExceedsEach, IsApart, AreMargins, IsQuotientOf, IsAnswerOf, MarginsStay, PassesMargins, PassesDivision, IsAnswerAt, QuotientStays, PassesQuotient}
 use Rattle.xc_pivot.proofs.Beside.{bound_times}

@@ -1,5 +1,6 @@
 -- Each number at a corner is one fraction, so an operation there has one result.
 use Rattle.std.proofs.Common.{◌≡◌, ℕ, Bool, subst}
+use Rattle.xc_model.proofs.Results.{over_one, product_one, quotient_one}
 use Rattle.xc_corners.specs.Corners.{Corner, Factors}
 use Rattle.xc_corners.specs.Operations.{Gives, IsGap, IsStep, IsMove}
 use Rattle.xc_corners.specs.Problems.{WholeProblem}
@@ -8,7 +9,6 @@ use Rattle.xc_model.specs.Fraction.{Fraction, SameNumber, difference_of, sum_of}
 use Rattle.xc_model.specs.Ratio.{Ratio, fraction_of}
 use Rattle.xc_model.proofs.LowestTerms.{one_lowest}
 use Rattle.xc_model.proofs.Numbers.{same-sym, same-trans}
-use Rattle.xc_corners.proofs.OneResult.{over_one, product_one, quotient_one}
 
 result_one : (r s : Ratio) (n : Fraction) → SameNumber (fraction_of r) n → SameNumber (fraction_of s) n → r ≡ s
 result_one r s n h l = one_lowest r s (same-trans (fraction_of r) n (fraction_of s) h (same-sym (fraction_of s) n l))

@@ -4,6 +4,8 @@ use Rattle.std.specs.Prelude.{Option, Result, IfOk, IfErr, OnOk, OnErr}
 use Rattle.std.specs.declared.cmp.Ordering.{Ordering}
 use Rattle.std.specs.declared.cmp.Ordering.TheVariants.{Less, Equal, Greater}
 use Rattle.std.proofs.lemmas.Bool.{lt-ltb}
+use Rattle.xc_model.proofs.Results.{over_one, product_one, product_stays, quotient_stays}
+use Rattle.xc_lists.proofs.Outcomes.{if_ok, if_named}
 use Rattle.xc_corners.specs.Corners.{Corner, Factors, value as value_at}
 use Rattle.xc_corners.specs.Ending.{IsTwo, IsLeastQuotient, IsSmallNumber, IsTinyProduct, IsValueWith, in_quotient, halved, tiny_times, real_added}
 use Rattle.xc_corners.specs.Operations.{operation, Gives}
@@ -17,8 +19,6 @@ use Rattle.xc_model.specs.Order.{Orders}
 use Rattle.xc_model.specs.Ratio.{Ratio, fraction_of}
 use Rattle.xc_model.proofs.LowestTerms.{one_lowest}
 use Rattle.xc_model.proofs.Orders.{number_total}
-use Rattle.xc_corners.proofs.OneResult.{over_one, product_one, product_stays, quotient_stays}
-use Rattle.xc_corners.proofs.Operated.{if_ok, if_passes}
 use Rattle.xc_pivot.specs.Deltas.{ArePartsOf}
 use Rattle.xc_pivot.specs.Quotients.{below_seen, IsLeastOf, SeenStay, PassesSmall}
 use Rattle.xc_pivot.specs.SmallValues.{IsHalfOf, PassesHalf, SmallStays, ValueStays, PassesValue}
@@ -38,7 +38,7 @@ pub half_is : (r two : Ratio) → IsTwo two → (o : Result Ratio Wide) → IfOk
 half_is r two is o h = if_ok o (Gives Div r two) (IsHalfOf (Some r)) h (λ s gives. (two, is, gives))
 
 pub half_passes : (r two : Ratio) → IsTwo two → (o : Result Ratio Wide) → IfErr o (λ w. w ≡ operation Div r two) → OnErr o (Passes Div r two) → IfErr o (PassesHalf (Some r))
-half_passes r two is o h k = if_passes o (PassesHalf (Some r)) Div r two h k (λ passes. (two, is, refl, passes))
+half_passes r two is o h k = if_named o (PassesHalf (Some r)) (operation Div r two) (Passes Div r two) h k (λ passes. (two, is, refl, passes))
 
 -- ---- the small number
 module _ (p : WholeProblem) (x : Corner) (t : Factors) (n : ℕ) (all : length p.ranges ≡ n) where
@@ -103,7 +103,7 @@ module _ (p : WholeProblem) (x : Corner) (t : Factors) (j : ℕ) (value : Delta 
     value_stays (Err w) h = tt
 
     pub value_passes : (o : Result Ratio Wide) → IfErr o (λ w. w ≡ operation Add value.real product) → OnErr o (Passes Add value.real product) → IfErr o (PassesValue p x t s j)
-    value_passes o h k = if_passes o (PassesValue p x t s j) Add value.real product h k (λ passes. record { stands = real_added value.real product (v false) is_product refl; passes = passes })
+    value_passes o h k = if_named o (PassesValue p x t s j) (operation Add value.real product) (Passes Add value.real product) h k (λ passes. record { stands = real_added value.real product (v false) is_product refl; passes = passes })
 
   pub tiny_passes : (w : Wide) → w ≡ operation Mul value.tiny s → Passes Mul value.tiny s → PassesValue p x t s j w
   tiny_passes w e passes = record { stands = tiny_times value.tiny (v true) e; passes = subst (λ (z : Wide). Passes z.op z.left z.right) (sym e) passes }

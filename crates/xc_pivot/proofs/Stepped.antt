@@ -1,6 +1,7 @@
 -- Where the values are moved, no operation of the step passes.
 use Rattle.std.proofs.Common.{◌≡◌, ◌≢◌, ℕ, ◌<◌, true, List, length, get_or, ◌⊎◌, inl, inr, sym, subst, arith, Some, None, slice_get, ◌≤◌}
 use Rattle.std.proofs.lemmas.Option.{slice_get_cases}
+use Rattle.xc_model.proofs.Results.{over_one, product_stays, quotient_stays}
 use Rattle.xc_corners.specs.Corners.{variables, Corner, Factors}
 use Rattle.xc_corners.specs.Operations.{StandsInStep, gap_taken, step_divided, entering_moved, step_times, basic_moved}
 use Rattle.xc_corners.specs.Problems.{WholeProblem}
@@ -9,7 +10,6 @@ use Rattle.xc_frac.specs.declared.delta.Delta.{Delta}
 use Rattle.xc_frac.specs.declared.wide.Op.TheVariants.{Add, Mul, Div}
 use Rattle.xc_frac.specs.declared.wide.Wide.{Wide}
 use Rattle.xc_model.specs.Ratio.{Ratio}
-use Rattle.xc_corners.proofs.OneResult.{over_one, product_stays, quotient_stays}
 use Rattle.xc_pivot.specs.Deltas.{of_part}
 use Rattle.xc_pivot.specs.States.{HasRow, ArePlaces}
 use Rattle.xc_pivot.specs.Steps.{IsStepOf, IsEnteringMoved, IsBasicMoved, AreMoved}

@@ -3,14 +3,14 @@ use Rattle.std.proofs.Common.{◌≡◌, ◌≢◌, ℕ, zero, suc, ◌+◌, ◌
 use Rattle.std.specs.Prelude.{filter, slice_set}
 use Rattle.std.proofs.lemmas.Bool.{cases_eq, eq-eqb, ne_eqb}
 use Rattle.std.proofs.lemmas.List.{take_more, append-nil}
+use Rattle.xc_model.proofs.Results.{over_one, product_one}
+use Rattle.xc_lists.proofs.RowPlaces.{place_below, places_apart}
 use Rattle.xc_corners.specs.Operations.{Gives, AddsUp, IsSumOf, IsZero, weights_of_range, IsLowProduct, IsLowSum}
 use Rattle.xc_corners.specs.declared.problem.Problem.{Problem}
 use Rattle.xc_frac.specs.Passes.{Passes}
 use Rattle.xc_frac.specs.declared.wide.Op.TheVariants.{Add, Mul}
 use Rattle.xc_model.specs.Ratio.{Ratio, IsOver}
 use Rattle.xc_tableau.specs.Tables.{Table, IsFilled}
-use Rattle.xc_corners.proofs.OneResult.{over_one, product_one}
-use Rattle.xc_corners.proofs.RowPlaces.{place_below, places_apart}
 use Rattle.xc_frac.specs.declared.delta.Delta.{Delta}
 use Rattle.xc_pivot.specs.Deltas.{of_part}
 use Rattle.xc_pivot.specs.Firsts.{HasRowSums, EntriesStay, KeepsRows, LowStays, IsLowAdded}

@@ -3,6 +3,8 @@ use Rattle.std.proofs.Common.{◌≡◌, ◌≢◌, ℕ, ◌+◌, ◌*◌, ◌<�
 use Rattle.std.specs.Prelude.{slice_set}
 use Rattle.std.proofs.lemmas.List.{get_or-set_same, get_or-set_other, length-set}
 use Rattle.std.proofs.lemmas.Option.{slice_get_within, get_or_from_slice_get, slice_get_read}
+use Rattle.xc_model.proofs.Results.{over_one, negative_one, product_one, quotient_one, product_stays, quotient_stays}
+use Rattle.xc_lists.proofs.RowPlaces.{entry_there, place_below}
 use Rattle.xc_corners.specs.Operations.{Gives, IsNegativeOf, IsOwnFactor, IsOtherFactor, IsProductFactor, StandsInExchange, own_divided, other_divided, own_times, other_times, other_added}
 use Rattle.xc_frac.specs.Passes.{Passes}
 use Rattle.xc_frac.specs.declared.wide.Op.TheVariants.{Add, Mul, Div}
@@ -10,8 +12,6 @@ use Rattle.xc_frac.specs.declared.wide.Wide.{Wide}
 use Rattle.xc_model.specs.Ratio.{Ratio}
 use Rattle.xc_tableau.specs.Exchanges.{PassesIn, IsLeaving, IsRest, IsExchanged}
 use Rattle.xc_tableau.specs.Tables.{Table, Has}
-use Rattle.xc_corners.proofs.OneResult.{over_one, negative_one, product_one, quotient_one, product_stays, quotient_stays}
-use Rattle.xc_corners.proofs.RowPlaces.{entry_there, place_below}
 
 -- ---- Entries.
 

@@ -3,12 +3,12 @@ use Rattle.std.proofs.Common.{◌≡◌, ◌≢◌, ℕ, ◌+◌, ◌*◌, ◌<�
 use Rattle.std.specs.Prelude.{slice_set}
 use Rattle.std.proofs.lemmas.Bool.{cases_eq}
 use Rattle.xc_model.specs.Ratio.{Ratio}
+use Rattle.xc_lists.proofs.RowPlaces.{place_below, places_apart}
 use Rattle.xc_tableau.specs.Exchanges.{IsEntering, IsMade}
 use Rattle.xc_tableau.specs.Steps.{table, EnteringDone, RowDone, RowsKept, OthersDone}
 use Rattle.xc_tableau.specs.Tables.{Has}
 use Rattle.xc_tableau.specs.declared.pivoting.Pivot.{Pivot}
 use Rattle.xc_tableau.proofs.Exchanging.{written_same, written_other}
-use Rattle.xc_corners.proofs.RowPlaces.{place_below, places_apart}
 
 module _ (pivot : Pivot) (entries xs : List Ratio) (k n p : ℕ) (v : Ratio) (is : p ≡ k * pivot.columns + n) (row : k < pivot.rows) (column : n < pivot.columns) (room : length xs ≡ pivot.rows * pivot.columns) where
   within : p < length xs

@@ -1,13 +1,13 @@
 use Rattle.std.proofs.Common.{◌≡◌, List, length, sym, ap, subst, ◌∙◌, arith}
 use Rattle.std.specs.Vec.{with_items}
 use Rattle.std.proofs.lemmas.List.{with_items_is}
+use Rattle.xc_lists.proofs.Outcomes.{if_done}
 use Rattle.xc_corners.specs.Choices.{first}
 use Rattle.xc_corners.specs.Tables.{first_factors}
 use Rattle.xc_corners.specs.WholeNumbers.{whole}
 use Rattle.xc_frac.specs.declared.delta.Delta.{Delta}
 use Rattle.xc_frac.specs.declared.wide.Wide.{Wide}
 use Rattle.xc_model.specs.Ratio.{Ratio}
-use Rattle.xc_corners.proofs.Operated.{if_done}
 use Rattle.xc_pivot.specs.Firsts.{PassesFirst, HasLowSums}
 use Rattle.xc_pivot.specs.States.{IsShaped, IsAt}
 use Rattle.xc_pivot.specs.declared.types.State.{State}

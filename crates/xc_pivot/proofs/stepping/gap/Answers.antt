@@ -1,10 +1,10 @@
 use Rattle.std.proofs.Common.{inr, refl, subst, arith}
+use Rattle.xc_model.proofs.Results.{over_one}
 use Rattle.xc_corners.specs.Operations.{gap_taken}
 use Rattle.xc_corners.specs.WholeNumbers.{whole}
 use Rattle.xc_frac.specs.Passes.{Passes}
 use Rattle.xc_frac.specs.declared.wide.Op.TheVariants.{Sub}
 use Rattle.xc_model.specs.Ratio.{Ratio}
-use Rattle.xc_corners.proofs.OneResult.{over_one}
 use Rattle.xc_pivot.specs.Deltas.{of_part}
 use Rattle.xc_pivot.specs.Steps.{PassesNext, IsGapOf}
 use Rattle.xc_pivot.proofs.Both.{if_each, if_one}

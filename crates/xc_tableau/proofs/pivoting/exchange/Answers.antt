@@ -1,9 +1,9 @@
 use Rattle.std.proofs.Common.{◌≡◌, ◌*◌, length, refl, arith}
 use Rattle.xc_frac.specs.declared.wide.Wide.{Wide}
+use Rattle.xc_lists.proofs.Outcomes.{if_done}
 use Rattle.xc_tableau.specs.Exchanges.{PassesIn, IsExchanged}
 use Rattle.xc_tableau.specs.Steps.{table, EnteringDone, OthersDone}
 use Rattle.xc_tableau.proofs.Exchanging.{none_passes}
-use Rattle.xc_corners.proofs.Operated.{if_done}
 use Rattle.xc_tableau.proofs.pivoting.exchange.Goals as goal
 
 pub returns : goal.returns

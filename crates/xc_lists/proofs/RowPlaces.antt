@@ -4,7 +4,6 @@ use Rattle.std.proofs.lemmas.Bool.{cases_order}
 use Rattle.std.proofs.lemmas.Nat.{mul-add-lt}
 use Rattle.std.proofs.lemmas.Option.{slice_get_cases}
 use Rattle.std.proofs.Math.Nat.{mul-le-mul_right}
-use Rattle.xc_model.specs.Ratio.{Ratio}
 
 -- it is among them
 pub place_below : (k j m n : ℕ) → k < m → j < n → k * n + j < m * n
@@ -23,9 +22,9 @@ places_apart k i j h n l m some e = go (cases_order k i)
     go (inr (inr q)) = omega (arith, lower_place i k h j n m q)
 
 -- there is an entry at each place below their number
-pub entry_there : (entries : List Ratio) (n : ℕ) → n < length entries → (f : Ratio) × (slice_get entries n ≡ Some f)
-entry_there entries n h = go (slice_get_cases entries n).1
+pub entry_there : {X : Type 0} (entries : List X) (n : ℕ) → n < length entries → (f : X) × (slice_get entries n ≡ Some f)
+entry_there {X} entries n h = go (slice_get_cases entries n).1
   where
-    go : (((x : Ratio) × (n < length entries) × (slice_get entries n ≡ Some x) × (get_or entries n x ≡ x)) ⊎ ((length entries ≤ n) × (slice_get entries n ≡ None))) → (f : Ratio) × (slice_get entries n ≡ Some f)
+    go : (((x : X) × (n < length entries) × (slice_get entries n ≡ Some x) × (get_or entries n x ≡ x)) ⊎ ((length entries ≤ n) × (slice_get entries n ≡ None))) → (f : X) × (slice_get entries n ≡ Some f)
     go (inl s) = (s.0, s.2)
     go (inr s) = absurd (omega (arith, s.0))

@@ -76,4 +76,3 @@ Keeps_then r x y z h k = record {
 pub moves_keep : (p : WholeProblem) (r n : ℕ) (x y : Corner) → Moves p r n x y → Keeps r x y
 moves_keep p r zero x y m = rw (← m) record { basic = λ j l. refl; high = λ j l. refl }
 moves_keep p r (suc n) x y m = Keeps_then r x m.0 y (exchange_keeps p r x m.1 m.2 m.0 m.3 m.4 m.5) (moves_keep p r n m.0 y m.6)
-

@@ -1,5 +1,4 @@
 pub mod Answers
-pub mod Checking
 pub mod Choices
 pub mod Conflicts
 pub mod Corners

@@ -14,10 +14,9 @@ use Rattle.xc_interval.specs.declared.interval.Interval.{Interval}
 use Rattle.xc_model.specs.Fraction.{Fraction, SameNumber, IsBelow, IsNumberOver, whole as whole_number}
 use Rattle.xc_model.specs.Parts.{WholeParts}
 use Rattle.xc_model.specs.Ratio.{Ratio, fraction_of, IsOver}
-use Rattle.xc_model.proofs.Integers.{ring, scale_lt, scale_le, cancel_lt, mul_positive}
-use Rattle.xc_model.proofs.Numbers.{den_positive, same-sym, same-trans}
-use Rattle.xc_model.proofs.NumbersOver.{over_number, number_over, number_same}
-use Rattle.xc_model.proofs.Over.{ratio}
+use Rattle.xc_model.proofs.Integers.{ring, scale_lt, scale_le, mul_positive}
+use Rattle.xc_model.proofs.Numbers.{den_positive}
+use Rattle.xc_model.proofs.NumbersOver.{over_number, number_over}
 use Rattle.xc_model.proofs.OrdersOver.{below_over, at_most_over}
 use Rattle.xc_model.proofs.Rescaled.{over_scaled}
 use Rattle.xc_model.proofs.Pairs.{same_pairs}

@@ -126,6 +126,6 @@ first_range_value problem c j f h o =
     (sym (value_part (whole problem) (first (whole problem)) (first_factors (whole problem)) c j
     ∙ spread_at_other (whole problem) (first (whole problem)) (first_factors (whole problem)) (λ k. part c (bound (whole problem) (first (whole problem)) k)) j (first_other (whole problem) j (let k : j < length (whole problem).ranges = omega (arith, ranges_whole problem) in k))))
 
-pub counts_variables : (problem : Problem) → (length (whole problem).ranges ≡ length problem.ranges) × (variables (whole problem) ≡ length problem.ranges + length problem.rows)
+pub counts_variables : (problem : Problem) → (length (whole problem).ranges ≡ length problem.ranges) × (variables (whole problem) ≡ length problem.ranges + length problem.rows) × (length (whole problem).rows ≡ length problem.rows)
 unfolding variables
-counts_variables problem = (ranges_whole problem, omega (arith, ranges_whole problem, rows_whole problem))
+counts_variables problem = (ranges_whole problem, omega (arith, ranges_whole problem, rows_whole problem), rows_whole problem)

@@ -72,10 +72,10 @@ pub can_enter_same : (p : WholeProblem) (x : Corner) (s t : Factors) (a : Bool) 
 can_enter_same p x s t a b q f g hb hq e c = record { other = c.other; free = c.free; helps = helps_same a (x.high q) _ _ s.over t.over g.positive (one_solved_form p x s t f g b q hb hq e c.other) c.helps }
 
 -- the variable that leaves is one
-pub leaves_same : (p : WholeProblem) (x : Corner) (s t : Factors) (a c : Bool) (b d : ℕ) → IsSolvedForm p x s → IsSolvedForm p x t → Leaves p x s a b → Leaves p x t c d → b < d → ⊥
+leaves_same : (p : WholeProblem) (x : Corner) (s t : Factors) (a c : Bool) (b d : ℕ) → IsSolvedForm p x s → IsSolvedForm p x t → Leaves p x s a b → Leaves p x t c d → b < d → ⊥
 leaves_same p x s t a c b d f g k l h = past_not_within p x s a b k.outside (within_same p x t s b k.is_variable g f (l.least b h k.basic))
 
-pub side_same : (p : WholeProblem) (x : Corner) (s t : Factors) (a c : Bool) (b : ℕ) → IsOpen p → IsSolvedForm p x s → IsSolvedForm p x t → Leaves p x s a b → Leaves p x t c b → a ≡ c
+side_same : (p : WholeProblem) (x : Corner) (s t : Factors) (a c : Bool) (b : ℕ) → IsOpen p → IsSolvedForm p x s → IsSolvedForm p x t → Leaves p x s a b → Leaves p x t c b → a ≡ c
 side_same p x s t false false b o f g k l = refl
 side_same p x s t true true b o f g k l = refl
 side_same p x s t false true b o f g k l = absurd (not_both p x t b o (past_same p x s t false b k.is_variable f g k.outside) l.outside)
@@ -84,7 +84,7 @@ side_same p x s t true false b o f g k l = absurd (not_both p x t b o l.outside 
 enters_same : (p : WholeProblem) (x : Corner) (s t : Factors) (a : Bool) (b q r : ℕ) → IsSolvedForm p x s → IsSolvedForm p x t → b < variables p → x.basic b ≡ true → Enters p x s a b q → Enters p x t a b r → q < r → ⊥
 enters_same p x s t a b q r f g h e k l m = l.least q m (can_enter_same p x s t a b q f g h k.is_variable e k.can)
 
-pub from_order : (a b : ℕ) → (a < b → ⊥) → (b < a → ⊥) → a ≡ b
+from_order : (a b : ℕ) → (a < b → ⊥) → (b < a → ⊥) → a ≡ b
 from_order a b h k = go (cases_order a b)
   where
     go : ((a ≡ b) ⊎ ((a < b) ⊎ (b < a))) → a ≡ b
@@ -92,18 +92,25 @@ from_order a b h k = go (cases_order a b)
     go (inr (inl l)) = absurd (h l)
     go (inr (inr l)) = absurd (k l)
 
+-- one variable leaves, past one of its bounds
+pub one_leaving : (p : WholeProblem) → IsWholeProblem p → (x : Corner) (s t : Factors) (a c : Bool) (b d : ℕ) → IsSolvedForm p x s → IsSolvedForm p x t → Leaves p x s a b → Leaves p x t c d → (a ≡ c) × (b ≡ d)
+one_leaving p h x s t a c b d f g k l =
+    let same : b ≡ d = from_order b d (leaves_same p x s t a c b d f g k l) (leaves_same p x t s c a d b g f l k) in
+    let there : Leaves p x t c b = rw same l in
+    (side_same p x s t a c b (open_from_problem p h) f g k there, same)
+
 -- a corner has at most one choice and one next corner
 pub one_next : (p : WholeProblem) → IsWholeProblem p → (x : Corner) (b q d r : ℕ) (y z : Corner) → Exchange p x b q y → Exchange p x d r z → (b ≡ d) × (q ≡ r) × (y ≡ z)
 one_next p h x b q d r y z e f = (same_b, same_q, e.next ∙ (λ i. exchanged p x (same_side i) (same_b i) (same_q i)) ∙ sym f.next)
   where
-    same_b : b ≡ d
-    same_b = from_order b d (leaves_same p x e.factors f.factors e.above f.above b d e.solved f.solved e.leaves f.leaves) (leaves_same p x f.factors e.factors f.above e.above d b f.solved e.solved f.leaves e.leaves)
-
-    f_leaves : Leaves p x f.factors f.above b
-    f_leaves = rw same_b f.leaves
+    leaving : (e.above ≡ f.above) × (b ≡ d)
+    leaving = one_leaving p h x e.factors f.factors e.above f.above b d e.solved f.solved e.leaves f.leaves
 
     same_side : e.above ≡ f.above
-    same_side = side_same p x e.factors f.factors e.above f.above b (open_from_problem p h) e.solved f.solved e.leaves f_leaves
+    same_side = leaving.0
+
+    same_b : b ≡ d
+    same_b = leaving.1
 
     f_enters : Enters p x f.factors e.above b r
     f_enters = rw (same_side, same_b) f.enters

@@ -1,10 +1,9 @@
 -- The run of corners is one list, and ends where there is no choice.
 use Rattle.std.proofs.Common.{◌≡◌, ℕ, zero, suc, ◌+◌, Bool, ◌⊎◌, inl, inr, ⊎_elim, refl, sym, subst, ◌∙◌, arith}
-use Rattle.xc_corners.specs.Choices.{Leaves, Enters, Exchange, Exchanges, IsFeasible, IsConflict}
+use Rattle.xc_corners.specs.Choices.{Enters, Exchange, Exchanges, IsFeasible, IsConflict}
 use Rattle.xc_corners.specs.Corners.{Corner, Factors, IsSolvedForm}
 use Rattle.xc_corners.specs.Problems.{WholeProblem, IsWholeProblem}
-use Rattle.xc_corners.proofs.Moves.{open_from_problem}
-use Rattle.xc_corners.proofs.OneChoice.{one_next, within_same, past_not_within, leaves_same, side_same, can_enter_same, from_order}
+use Rattle.xc_corners.proofs.OneChoice.{one_next, one_leaving, within_same, past_not_within, can_enter_same}
 
 -- so the run is one list
 pub one_run : (p : WholeProblem) → IsWholeProblem p → (n : ℕ) (x y z : Corner) → Exchanges p n x y → Exchanges p n x z → y ≡ z
@@ -31,8 +30,6 @@ feasible_last p x t b q y f w e = past_not_within p x e.factors e.above b e.leav
 
 pub conflict_last : (p : WholeProblem) → IsWholeProblem p → (x : Corner) (t : Factors) (a : Bool) (b d q : ℕ) (y : Corner) → IsSolvedForm p x t → IsConflict p x t a b → Exchange p x d q y → ⊥
 conflict_last p h x t a b d q y f k e =
-    let same : b ≡ d = from_order b d (leaves_same p x t e.factors a e.above b d f e.solved k.leaves e.leaves) (leaves_same p x e.factors t e.above a d b e.solved f e.leaves k.leaves) in
-    let leaves : Leaves p x e.factors e.above b = rw same e.leaves in
-    let side : e.above ≡ a = side_same p x e.factors t e.above a b (open_from_problem p h) e.solved f leaves k.leaves in
-    let enters : Enters p x e.factors a b q = rw (← side, same) e.enters in
+    let leaving : (a ≡ e.above) × (b ≡ d) = one_leaving p h x t e.factors a e.above b d f e.solved k.leaves e.leaves in
+    let enters : Enters p x e.factors a b q = rw (leaving.0, leaving.1) e.enters in
     k.none q enters.is_variable (can_enter_same p x e.factors t a b q e.solved f k.leaves.is_variable enters.is_variable k.leaves.basic enters.can)

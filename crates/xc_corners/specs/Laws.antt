@@ -1,17 +1,18 @@
 -- What follows from the definitions for all problems.
-use Rattle.std.specs.Prelude.{◌≡◌, ◌≢◌, ℕ, suc, ◌+◌, ◌^◌, ◌<◌, ◌≤◌, Bool, true, false, pos, negsuc, ◌*ℤ◌, ◌<ℤ◌, List, length, Some, slice_get, if◌then◌else◌}
+use Rattle.std.specs.Prelude.{◌≡◌, ◌≢◌, ◌⊎◌, ℕ, suc, ◌+◌, ◌^◌, ◌<◌, ◌≤◌, Bool, true, false, pos, negsuc, ◌*ℤ◌, ◌<ℤ◌, List, length, Some, slice_get, if◌then◌else◌}
 use Rattle.xc_frac.specs.declared.wide.Op.TheVariants.{Add, Mul}
 use Rattle.xc_interval.specs.Ends.{value_of, is_open}
 use Rattle.xc_interval.specs.declared.interval.Interval.{Interval}
 use Rattle.xc_model.specs.Parts.{WholeParts}
 use Rattle.xc_model.specs.Ratio.{Ratio, IsOver}
-use Rattle.xc_corners.specs.Choices.{first, exchanged, Exchange, Exchanges, Moves, IsReached, IsReachedBy, IsFeasible, IsConflict}
+use Rattle.xc_corners.specs.Choices.{Leaves, first, exchanged, Exchange, Exchanges, Moves, IsReached, IsReachedBy, IsFeasible, IsConflict}
 use Rattle.xc_corners.specs.Answers.{Solves, Contradicts}
 use Rattle.xc_corners.specs.Conflicts.{multiplier, Refutes, AreOfConflict}
-use Rattle.xc_corners.specs.Corners.{variables, low_bound, high_bound, Corner, Factors, IsSolvedForm}
+use Rattle.xc_corners.specs.Corners.{variables, low_bound, high_bound, bound, Corner, Factors, IsSolvedForm, value, IsWithin, IsOutside}
 use Rattle.xc_corners.specs.Ending.{IsSmallNumber, AreValuesWith}
 use Rattle.xc_corners.specs.LastOperations.{IsFeasibleAt, IsConflictAt}
 use Rattle.xc_corners.specs.Operations.{Gives, IsOwnFactor, IsOtherFactor, IsProductFactor, IsFactor, IsValuePart, IsStep, IsMove, IsSumOf, weights_of_range, entries_of, IsLowSum, IsLowPart, part, passed_bound}
+use Rattle.xc_corners.specs.Pairs.{◌≼◌, times}
 use Rattle.xc_corners.specs.Problems.{WholeProblem, IsWholeProblem, IsProblem}
 use Rattle.xc_corners.specs.Tables.{first_factors, pivoted}
 use Rattle.xc_corners.specs.WholeNumbers.{whole}
@@ -28,9 +29,51 @@ abbrev pub ExchangeSolves : Type 0
 ExchangeSolves = (p : WholeProblem) (x : Corner) (t : Factors) (above : Bool) (b q : ℕ) → IsSolvedForm p x t → b < variables p → q < variables p
     → x.basic b ≡ true → x.basic q ≡ false → t.factor b q ≢ pos 0 → IsSolvedForm p (exchanged p x above b q) (pivoted t b q)
 
--- each corner of the run has a solved form
+-- the first corner has this one
+abbrev pub FirstSolved : Type 0
+FirstSolved = (p : WholeProblem) → IsWholeProblem p → IsSolvedForm p (first p) (first_factors p)
+
+-- and so each corner of the run has a solved form
 abbrev pub ReachedSolved : Type 0
 ReachedSolved = (p : WholeProblem) (x : Corner) → IsWholeProblem p → IsReached p x → (t : Factors) × IsSolvedForm p x t
+
+-- ---- The variables at a corner.
+
+-- at the first corner the variables of rows are basic, and those of ranges are not
+abbrev pub FirstAreRows : Type 0
+FirstAreRows = (p : WholeProblem) (j : ℕ) → (length p.ranges ≤ j → j < variables p → (first p).basic j ≡ true) × (j < length p.ranges → (first p).basic j ≡ false)
+
+-- in y, q is basic, b is not, and all other variables are as in x
+pub record ArePutInPlace (x y : Corner) (b q : ℕ) : Type 0 where
+  pub entered : y.basic q ≡ true
+  pub left : b ≢ q → y.basic b ≡ false
+  pub basic : (j : ℕ) → j ≢ b → j ≢ q → y.basic j ≡ x.basic j
+  pub high : (j : ℕ) → j ≢ b → j ≢ q → y.high j ≡ x.high j
+
+-- an exchange puts q in the place of b, and leaves all others as they are
+abbrev pub ExchangeMovesTwo : Type 0
+ExchangeMovesTwo = (p : WholeProblem) (x : Corner) (above : Bool) (b q : ℕ) → ArePutInPlace x (exchanged p x above b q) b q
+
+-- the value of a variable that is not basic is the bound of its side
+abbrev pub OtherIsAtBound : Type 0
+OtherIsAtBound = (p : WholeProblem) (x : Corner) (t : Factors) (j : ℕ) → x.basic j ≡ false → value p x t j ≡ times (pos t.over) (bound p x j)
+
+-- two solved forms of a corner give the same values
+abbrev pub HasOneValue : Type 0
+HasOneValue = (p : WholeProblem) (x : Corner) (s t : Factors) (j : ℕ) → IsSolvedForm p x s → IsSolvedForm p x t → j < variables p
+    → times (pos t.over) (value p x s j) ≡ times (pos s.over) (value p x t j)
+
+-- so a variable that is outside its bounds by one of them is not within them by the other
+abbrev pub OutsideIsNotWithin : Type 0
+OutsideIsNotWithin = (p : WholeProblem) (x : Corner) (s t : Factors) (above : Bool) (j : ℕ) → IsSolvedForm p x s → IsSolvedForm p x t → j < variables p
+    → IsOutside p x s above j → ¬ IsWithin p x t j
+
+-- and one variable leaves, past one of its bounds
+abbrev pub HasOneLeaving : Type 0
+HasOneLeaving = (p : WholeProblem) (x : Corner) (s t : Factors) (above other : Bool) (b d : ℕ) → IsWholeProblem p → IsSolvedForm p x s → IsSolvedForm p x t
+    → Leaves p x s above b → Leaves p x t other d → (above ≡ other) × (b ≡ d)
+
+-- ---- The run.
 
 -- where r left, and afterwards only variables up to r move, r does not enter again
 abbrev pub NeverComesBack : Type 0
@@ -48,6 +91,15 @@ HasOneChoice = (p : WholeProblem) (x y z : Corner) (b q d r : ℕ) → IsWholePr
 -- so n exchanges lead to one corner at most
 abbrev pub IsOneRun : Type 0
 IsOneRun = (p : WholeProblem) (n : ℕ) (y z : Corner) → IsWholeProblem p → IsReachedBy p n y → IsReachedBy p n z → y ≡ z
+
+-- an exchange more leads to a corner of the run
+abbrev pub RunGoesOn : Type 0
+RunGoesOn = (p : WholeProblem) (n : ℕ) (y z : Corner) (b q : ℕ) → IsReachedBy p n y → Exchange p y b q z → IsReachedBy p (suc n) z
+
+-- and of two corners of the run one leads to the other
+abbrev pub OneLeadsOn : Type 0
+OneLeadsOn = (p : WholeProblem) (m n : ℕ) (y z : Corner) → IsWholeProblem p → IsReachedBy p m y → IsReachedBy p n z
+    → ((k : ℕ) × Exchanges p k y z × (n ≡ m + k)) ⊎ ((k : ℕ) × Exchanges p k z y × (m ≡ n + k))
 
 -- no exchange follows a feasible corner
 abbrev pub FeasibleIsLast : Type 0
@@ -147,9 +199,14 @@ zero_pair = record { real = pos 0; tiny = pos 0 }
 abbrev pub RowBounds : Type 0
 RowBounds = (problem : Problem) (j : ℕ) → length problem.ranges ≤ j → (low_bound (whole problem) j ≡ zero_pair) × (high_bound (whole problem) j ≡ zero_pair)
 
--- there are as many variables as ranges and rows
+-- the low bound of each variable is at most its high one
+abbrev pub BoundsInOrder : Type 0
+BoundsInOrder = (p : WholeProblem) (j : ℕ) → IsWholeProblem p → low_bound p j ≼ high_bound p j
+
+-- ranges and rows are as many, and there are as many variables as both
 abbrev pub CountsVariables : Type 0
 CountsVariables = (problem : Problem) → (length (whole problem).ranges ≡ length problem.ranges) × (variables (whole problem) ≡ length problem.ranges + length problem.rows)
+    × (length (whole problem).rows ≡ length problem.rows)
 
 -- ---- The last corner.
 

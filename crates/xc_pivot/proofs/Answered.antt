@@ -2,7 +2,7 @@
 use Rattle.std.proofs.Common.{◌≡◌, ℕ, zero, suc, ◌+◌, Bool, List, Ok, Err, length, inl, inr, ⊎_elim, refl, sym, subst}
 use Rattle.std.specs.Prelude.{Result, IfOk}
 use Rattle.xc_model.proofs.Results.{over_one, quotient_one}
-use Rattle.xc_corners.specs.Choices.{Leaves, Exchange, Exchanges, first, IsReached, IsFeasible, IsConflict}
+use Rattle.xc_corners.specs.Choices.{Leaves, Exchange, Exchanges, IsReached, IsFeasible, IsConflict}
 use Rattle.xc_corners.specs.Corners.{Corner, Factors, corner_of, IsSolvedForm}
 use Rattle.xc_corners.specs.Ending.{IsSmallNumber, StandsInSmall, StandsInValue, StandsInValues}
 use Rattle.xc_corners.specs.LastOperations.{IsFeasibleAt, PassesInSolving, StandsInSolving, in_walk, in_small, in_values}
@@ -10,13 +10,11 @@ use Rattle.xc_corners.specs.Problems.{WholeProblem, IsWholeProblem}
 use Rattle.xc_corners.specs.WholeNumbers.{whole}
 use Rattle.xc_corners.specs.declared.multipliers.Multipliers.{Multipliers}
 use Rattle.xc_corners.specs.declared.problem.Problem.{Problem}
-use Rattle.xc_corners.proofs.Moves.{open_from_problem}
-use Rattle.xc_corners.proofs.OneChoice.{leaves_same, side_same, from_order, past_not_within, within_same}
-use Rattle.xc_corners.proofs.Runs.{along, feasible_last, conflict_last}
 use Rattle.xc_frac.specs.declared.wide.Wide.{Wide}
 use Rattle.xc_frac.specs.declared.wide.Op.TheVariants.{Div}
 use Rattle.xc_corners.specs.Operations.{Gives}
 use Rattle.xc_model.specs.Ratio.{Ratio}
+use Rattle.xc_pivot.specs.CornerLaws.{CornerLaws}
 use Rattle.xc_pivot.specs.SmallValues.{SmallStays, ValuesStay, PassesFeasible}
 use Rattle.xc_pivot.specs.Solving.{NothingStops, StopsAt, IfFeasible, IfInfeasible, IfStopped}
 use Rattle.xc_pivot.specs.States.{ArePlaces, HasNoChoice}
@@ -38,18 +36,17 @@ small_one p x t s r (inr a) (inl o) = absurd (a.1 o.is_least.high o.is_least.ran
 small_one p x t s r (inr a) (inr o) = over_one s r _ _ a.0 o.0
 
 -- where a variable is to leave and there is no choice, there is a conflict
-pub conflict_here : (p : WholeProblem) → IsWholeProblem p → (x : Corner) (t : Factors) (above : Bool) (b : ℕ) → IsSolvedForm p x t → HasNoChoice p x t → Leaves p x t above b → IsConflict p x t above b
-conflict_here p h x t above b f (inl feasible) leaves = absurd (past_not_within p x t above b leaves.outside (feasible.within b leaves.is_variable leaves.basic))
-conflict_here p h x t above b f (inr (a, d, conflict)) leaves =
-    let same : d ≡ b = from_order d b (leaves_same p x t t a above d b f f conflict.leaves leaves) (leaves_same p x t t above a b d f f leaves conflict.leaves) in
-    let side : a ≡ above = side_same p x t t a above b (open_from_problem p h) f f (subst (λ k. Leaves p x t a k) same conflict.leaves) leaves in
-    subst (λ s. IsConflict p x t s b) side (subst (λ k. IsConflict p x t a k) same conflict)
+pub conflict_here : CornerLaws → (p : WholeProblem) → IsWholeProblem p → (x : Corner) (t : Factors) (above : Bool) (b : ℕ) → IsSolvedForm p x t → HasNoChoice p x t → Leaves p x t above b → IsConflict p x t above b
+conflict_here laws p h x t above b f (inl feasible) leaves = absurd (laws.outside p x t t above b f f leaves.is_variable leaves.outside (feasible.within b leaves.is_variable leaves.basic))
+conflict_here laws p h x t above b f (inr (a, d, conflict)) leaves =
+    let one = laws.leaving p x t t a above d b h f f conflict.leaves leaves in
+    subst (λ s. IsConflict p x t s b) one.0 (subst (λ k. IsConflict p x t a k) one.1 conflict)
 
-module _ (problem : Problem) (h : IsWholeProblem (whole problem)) (x : Corner) (t : Factors) (solved : IsSolvedForm (whole problem) x t) (none : HasNoChoice (whole problem) x t) (reached : IsReached (whole problem) x) (nothing : NothingPasses problem) where
+module _ (laws : CornerLaws) (problem : Problem) (h : IsWholeProblem (whole problem)) (x : Corner) (t : Factors) (solved : IsSolvedForm (whole problem) x t) (none : HasNoChoice (whole problem) x t) (reached : IsReached (whole problem) x) (nothing : NothingPasses problem) where
   no_exchange : (b q : ℕ) (y : Corner) → ¬ Exchange (whole problem) x b q y
   no_exchange b q y e = ⊎_elim
-      (λ (f : IsFeasible (whole problem) x t). feasible_last (whole problem) x t b q y solved f e)
-      (λ (f : (above : Bool) × (d : ℕ) × IsConflict (whole problem) x t above d). conflict_last (whole problem) h x t f.0 f.1 b q y solved f.2 e)
+      (λ (f : IsFeasible (whole problem) x t). laws.feasible (whole problem) x y t b q solved f e)
+      (λ (f : (above : Bool) × (d : ℕ) × IsConflict (whole problem) x t above d). laws.conflict (whole problem) x y t f.0 f.1 b q h solved f.2 e)
       none
 
   same_from : (m : ℕ) (y z : Corner) → Exchanges (whole problem) m y z → ((b q : ℕ) (u : Corner) → ¬ Exchange (whole problem) y b q u) → y ≡ z
@@ -60,8 +57,8 @@ module _ (problem : Problem) (h : IsWholeProblem (whole problem)) (x : Corner) (
   same_last : (y : Corner) (s : Factors) → IsReached (whole problem) y → IsFeasibleAt problem y s → y ≡ x
   same_last y s (k, r) at = ⊎_elim
       (λ (i : (m : ℕ) × Exchanges (whole problem) m x y × (k ≡ reached.0 + m)). sym (same_from i.0 x y i.1 no_exchange))
-      (λ (i : (m : ℕ) × Exchanges (whole problem) m y x × (reached.0 ≡ k + m)). same_from i.0 y x i.1 (λ b q u e. feasible_last (whole problem) y s b q u at.solved at.feasible e))
-      (along (whole problem) h reached.0 k (first (whole problem)) x y reached.1 r)
+      (λ (i : (m : ℕ) × Exchanges (whole problem) m y x × (reached.0 ≡ k + m)). same_from i.0 y x i.1 (λ b q u e. laws.feasible (whole problem) y u s b q at.solved at.feasible e))
+      (laws.along (whole problem) reached.0 k x y h reached.1 r)
 
   -- at a feasible corner
   pub nothing_feasible : (small : Ratio) → IsSmallNumber (whole problem) x t small → SmallStays (whole problem) x t → ValuesStay (whole problem) x t small → NothingStops problem
@@ -74,13 +71,13 @@ module _ (problem : Problem) (h : IsWholeProblem (whole problem)) (x : Corner) (
       go (in_walk stands) = nothing y w r (record { stands = stands; passes = passes.passes })
       go (in_small s at stands) =
           let stands_here = subst (λ z. StandsInSmall (whole problem) z s w) (same_last y s r at) stands in
-          small_stays w (in_small_moves (whole problem) x s t (here s at) solved h.unit w stands_here) passes.passes
+          small_stays w (in_small_moves laws (whole problem) x s t (here s at) solved h.unit w stands_here) passes.passes
       go (in_values s at stands) =
           let stands_here = subst (λ z. StandsInValues (whole problem) z s w) (same_last y s r at) stands in
-          let own = small_moves (whole problem) x s t (here s at) solved h.unit stands_here.small stands_here.is_small in
+          let own = small_moves laws (whole problem) x s t (here s at) solved h.unit stands_here.small stands_here.is_small in
           let same = small_one (whole problem) x t stands_here.small small own is_small in
           values_stay stands_here.range stands_here.is_range w
-          (in_value_moves (whole problem) x s t (here s at) solved h.unit small stands_here.range w stands_here.is_range (subst (λ z. StandsInValue (whole problem) x s z stands_here.range w) same stands_here.stands)) passes.passes
+          (in_value_moves laws (whole problem) x s t (here s at) solved h.unit small stands_here.range w stands_here.is_range (subst (λ z. StandsInValue (whole problem) x s z stands_here.range w) same stands_here.stands)) passes.passes
 
   -- at a conflict
   pub nothing_conflict : (above : Bool) (b : ℕ) → IsConflict (whole problem) x t above b → NothingStops problem
@@ -89,8 +86,8 @@ module _ (problem : Problem) (h : IsWholeProblem (whole problem)) (x : Corner) (
       not_feasible : (s : Factors) → IsFeasibleAt problem y s → ⊥
       not_feasible s at =
           let here = subst (λ z. IsFeasibleAt problem z s) (same_last y s r at) at in
-          past_not_within (whole problem) x t above b conflict.leaves.outside
-          (within_same (whole problem) x s t b conflict.leaves.is_variable here.solved solved (here.feasible.within b conflict.leaves.is_variable conflict.leaves.basic))
+          laws.outside (whole problem) x t s above b solved here.solved conflict.leaves.is_variable conflict.leaves.outside
+          (here.feasible.within b conflict.leaves.is_variable conflict.leaves.basic)
 
       go : StandsInSolving problem y w → ⊥
       go (in_walk stands) = nothing y w r (record { stands = stands; passes = passes.passes })

@@ -1,16 +1,14 @@
 -- What is known along the run, and at its end.
 use Rattle.std.proofs.Common.{◌≡◌, ℕ, zero, suc, ◌+◌, ◌<◌, ◌≤◌, Bool, ◌⊎◌, inl, inr, ⊎_elim, refl, sym, subst, arith}
 use Rattle.std.proofs.lemmas.Bool.{cases_lt}
-use Rattle.xc_corners.specs.Choices.{Leaves, exchanged, Exchange, Exchanges, first, IsReachedBy, IsLast, IsFeasible, IsConflict}
+use Rattle.xc_corners.specs.Choices.{exchanged, Exchange, Exchanges, IsReachedBy, IsLast, IsFeasible, IsConflict}
 use Rattle.xc_corners.specs.Corners.{Corner, Factors, IsSolvedForm}
 use Rattle.xc_corners.specs.Operations.{StandsAt, at_first, in_exchange, in_step, PassesAt, IsBasic, IsOther, IsFactor, StandsInExchange, StandsInStep}
 use Rattle.xc_corners.specs.Problems.{IsWholeProblem}
 use Rattle.xc_corners.specs.WholeNumbers.{whole}
 use Rattle.xc_corners.specs.declared.problem.Problem.{Problem}
-use Rattle.xc_corners.proofs.Moves.{open_from_problem}
-use Rattle.xc_corners.proofs.OneChoice.{one_next, side_same}
-use Rattle.xc_corners.proofs.Runs.{along, feasible_last, conflict_last}
 use Rattle.xc_frac.specs.declared.wide.Wide.{Wide}
+use Rattle.xc_pivot.specs.CornerLaws.{CornerLaws}
 use Rattle.xc_pivot.specs.Firsts.{PassesFirst}
 use Rattle.xc_pivot.specs.States.{IsChoice, HasNoChoice}
 use Rattle.xc_pivot.specs.Steps.{PassesNext}
@@ -36,7 +34,7 @@ module _ (problem : Problem) (w : IsWholeProblem (whole problem)) (x : Corner) (
     passes = h.passes;
   }
 
-  module _ (first_fits : (v : Wide) → ¬ PassesFirst problem v) where
+  module _ (laws : CornerLaws) (first_fits : (v : Wide) → ¬ PassesFirst problem v) where
     -- where none passes in it, none passes at the corner
     pub none_at : (places : List Place) (choice : Choice) → IsChoice (whole problem) places x t choice → ((v : Wide) → ¬ PassesNext (whole problem) x t choice v) → (v : Wide) → ¬ PassesAt problem x v
     none_at places choice chosen fits v h = go h.stands
@@ -47,13 +45,13 @@ module _ (problem : Problem) (w : IsWholeProblem (whole problem)) (x : Corner) (
         go : StandsAt problem x v → ⊥
         go (at_first is o) = first_fits v (record { stands = o; passes = h.passes })
         go (in_exchange d r y e o) =
-            let same = one_next (whole problem) w x d r choice.leaving.variable choice.entering.variable y _ e (exchange_of places choice chosen) in
-            let moved = exchange_moves (whole problem) x e.factors t e.solved solved w.unit d r (e.leaves.is_variable, e.leaves.basic) (e.enters.is_variable, e.enters.can.other) v o in
+            let same = laws.choice (whole problem) x y _ d r choice.leaving.variable choice.entering.variable w e (exchange_of places choice chosen) in
+            let moved = exchange_moves laws (whole problem) x e.factors t e.solved solved w.unit d r (e.leaves.is_variable, e.leaves.basic) (e.enters.is_variable, e.enters.can.other) v o in
             fits v (record { stands = inl (subst (λ k. StandsInExchange (IsBasic (whole problem) x) (IsOther (whole problem) x) (IsFactor t) k choice.entering.variable v) same.0 (subst (λ k. StandsInExchange (IsBasic (whole problem) x) (IsOther (whole problem) x) (IsFactor t) d k v) same.1 moved)); passes = h.passes })
         go (in_step d r y e o) =
-            let same = one_next (whole problem) w x d r choice.leaving.variable choice.entering.variable y _ e (exchange_of places choice chosen) in
-            let moved = step_moves (whole problem) x e.factors t e.solved solved w.unit d r (e.leaves.is_variable, e.leaves.basic) (e.enters.is_variable, e.enters.can.other) e.above v o in
-            let side = side_same (whole problem) x e.factors t e.above choice.leaving.above choice.leaving.variable (open_from_problem (whole problem) w) e.solved solved (subst (λ k. Leaves (whole problem) x e.factors e.above k) same.0 e.leaves) chosen.leaving.leaves in
+            let same = laws.choice (whole problem) x y _ d r choice.leaving.variable choice.entering.variable w e (exchange_of places choice chosen) in
+            let moved = step_moves laws (whole problem) x e.factors t e.solved solved w.unit d r (e.leaves.is_variable, e.leaves.basic) (e.enters.is_variable, e.enters.can.other) e.above v o in
+            let side = (laws.leaving (whole problem) x e.factors t e.above choice.leaving.above d choice.leaving.variable w e.solved solved e.leaves chosen.leaving.leaves).0 in
             fits v (record {
               stands = inr (subst (λ a. StandsInStep (whole problem) x t a choice.leaving.variable choice.entering.variable v) side
                   (subst (λ k. StandsInStep (whole problem) x t e.above k choice.entering.variable v) same.0 (subst (λ k. StandsInStep (whole problem) x t e.above d k v) same.1 moved)));
@@ -63,8 +61,8 @@ module _ (problem : Problem) (w : IsWholeProblem (whole problem)) (x : Corner) (
     module _ (none : HasNoChoice (whole problem) x t) where
       no_exchange : (b q : ℕ) (y : Corner) → ¬ Exchange (whole problem) x b q y
       no_exchange b q y e = ⊎_elim
-          (λ (f : IsFeasible (whole problem) x t). feasible_last (whole problem) x t b q y solved f e)
-          (λ (f : (above : Bool) × (d : ℕ) × IsConflict (whole problem) x t above d). conflict_last (whole problem) w x t f.0 f.1 b q y solved f.2 e)
+          (λ (f : IsFeasible (whole problem) x t). laws.feasible (whole problem) x y t b q solved f e)
+          (λ (f : (above : Bool) × (d : ℕ) × IsConflict (whole problem) x t above d). laws.conflict (whole problem) x y t f.0 f.1 b q w solved f.2 e)
           none
 
       -- at the last corner none passes
@@ -93,7 +91,7 @@ module _ (problem : Problem) (w : IsWholeProblem (whole problem)) (x : Corner) (
           go (inr h) = ⊎_elim
               (λ (i : (m : ℕ) × Exchanges (whole problem) m x y × (k ≡ n + m)). none_from i.0 y v i.1)
               (λ (i : (m : ℕ) × Exchanges (whole problem) m y x × (n ≡ k + m)). none_back y v i.0 i.1 (omega (arith, i.2)))
-              (along (whole problem) w n k (first (whole problem)) x y reached r)
+              (laws.along (whole problem) n k x y w reached r)
 
       pub is_last : (n : ℕ) → IsReachedBy (whole problem) n x → IsLast (whole problem) x
       is_last n reached = record { reached = (n, reached); factors = t; solved = solved; ends = none }

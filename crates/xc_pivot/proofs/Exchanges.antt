@@ -4,7 +4,7 @@ use Rattle.std.specs.Prelude.{slice_set}
 use Rattle.std.proofs.lemmas.Int.{ints}
 use Rattle.xc_corners.specs.Choices.{Helps, exchanged}
 use Rattle.xc_corners.specs.Corners.{variables, Corner, Factors}
-use Rattle.xc_corners.specs.Laws.{EnteringFactors, LeavingFactors, OtherFactors, EnteringValue, BasicValue, ExchangeSolves, MayExchange, AtExchange}
+use Rattle.xc_corners.specs.Laws.{EnteringFactors, LeavingFactors, OtherFactors, EnteringValue, BasicValue, ExchangeMovesTwo, ExchangeSolves, MayExchange, AtExchange}
 use Rattle.xc_corners.specs.Operations.{IsBasic, IsOther, IsFactor, StandsInExchange, StandsInStep}
 use Rattle.xc_corners.specs.Problems.{IsWholeProblem}
 use Rattle.xc_corners.specs.Tables.{pivoted}
@@ -53,12 +53,12 @@ module _ (problem : Problem) (s : State) (x : Corner) (t : Factors) (choice : Ch
   exchange_at : IsWholeProblem (whole problem) → AtExchange (whole problem) x t b q
   exchange_at w = record { unit = w.unit; solved = at.solved; some = some; leaving = chosen.leaving.leaves.is_variable; basic = chosen.leaving.leaves.basic; entering = chosen.entering.enters.is_variable; other = chosen.entering.enters.can.other }
 
-  pub next_at : (final : State) (vs : List (Delta Ratio)) (d : Delta Ratio) → IsWholeProblem (whole problem) → ExchangeSolves → EnteringFactors → LeavingFactors → OtherFactors → EnteringValue → BasicValue
+  pub next_at : (final : State) (vs : List (Delta Ratio)) (d : Delta Ratio) → IsWholeProblem (whole problem) → ExchangeMovesTwo → ExchangeSolves → EnteringFactors → LeavingFactors → OtherFactors → EnteringValue → BasicValue
       → IsExchanged s.table choice.leaving.row choice.entering.column final.table → final.values.items ≡ slice_set vs choice.leaving.row d → final.places.items ≡ replaced problem choice s.places.items → length vs ≡ length problem.rows
       → IsEnteringMoved (whole problem) x t choice d → AreMoved (whole problem) x t choice s.places.items (length vs) vs → IsAtNext problem final x t choice
-  next_at final vs d w solves ef lf of ev bv e is_values is_places count entering rest = record {
+  next_at final vs d w moves solves ef lf of ev bv e is_values is_places count entering rest = record {
     solved = solves (whole problem) x t choice.leaving.above b q at.solved chosen.leaving.leaves.is_variable chosen.entering.enters.is_variable chosen.leaving.leaves.basic chosen.entering.enters.can.other some;
-    placed = subst (λ (ps : List Place). ArePlaces (length problem.rows) (length problem.ranges) (exchanged (whole problem) x choice.leaving.above b q) ps) (sym is_places) (places_next problem (length problem.rows) (length problem.ranges) x s.places.items choice at.placed hb hq);
+    placed = subst (λ (ps : List Place). ArePlaces (length problem.rows) (length problem.ranges) (exchanged (whole problem) x choice.leaving.above b q) ps) (sym is_places) (places_next problem (length problem.rows) (length problem.ranges) x s.places.items choice at.placed hb hq moves);
     factors = subst (λ (ps : List Place). AreFactors final.table ps (pivoted t b q)) (sym is_places)
         (factors_next problem (length problem.rows) (length problem.ranges) x t s.places.items choice at.placed hb hq may s.table at.factors shaped.rows shaped.columns (λ j r h. row_inside problem s j r shaped h) (λ j c h. column_inside problem s j c shaped h) ef lf of final.table e);
     values = subst (λ (ps : List Place). AreValues (whole problem) final.values.items ps (exchanged (whole problem) x choice.leaving.above b q) (pivoted t b q)) (sym is_places)

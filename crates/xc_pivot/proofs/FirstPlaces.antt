@@ -9,8 +9,8 @@ use Rattle.std.proofs.Math.Seq.{get_or-append_seam}
 use Rattle.std.proofs.lemmas.Option.{slice_get_within, get_or_from_slice_get, slice_get_read, slice_get_cases}
 use Rattle.xc_corners.specs.Choices.{first}
 use Rattle.xc_corners.specs.Corners.{variables}
+use Rattle.xc_corners.specs.Laws.{FirstAreRows}
 use Rattle.xc_corners.specs.Problems.{WholeProblem}
-use Rattle.xc_corners.proofs.FirstCorner.{first_basic, first_other}
 use Rattle.xc_pivot.specs.Firsts.{first_place, AreFirstPlaces}
 use Rattle.xc_pivot.specs.States.{is_row, is_high, HasRow, HasColumn, IsInside, ArePlaces}
 use Rattle.xc_pivot.specs.declared.types.Place.{Place}
@@ -92,13 +92,13 @@ module _ (n m : ℕ) (places : List Place) (all : AreFirstPlaces n places) (coun
       go (inl k) = subst (λ (p : Place). IsInside m n p) (sym (all j place e ∙ low_first n j k)) k
       go (inr k) = subst (λ (p : Place). IsInside m n p) (sym (all j place e ∙ row_first n j k)) (omega (arith, slice_get_within places j place e, count))
 
-  module _ (p : WholeProblem) (ranges : length p.ranges ≡ n) (vars : variables p ≡ n + m) where
+  module _ (law : FirstAreRows) (p : WholeProblem) (ranges : length p.ranges ≡ n) (vars : variables p ≡ n + m) where
     basic_first : (j : ℕ) (place : Place) → slice_get places j ≡ Some place → (first p).basic j ≡ is_row place
     basic_first j place e = go (cases_lt j n)
       where
         go : ((j < n) ⊎ (n ≤ j)) → (first p).basic j ≡ is_row place
-        go (inl k) = first_other p j (omega (arith, ranges)) ∙ ap is_row (sym (all j place e ∙ low_first n j k))
-        go (inr k) = first_basic p j (omega (arith, ranges)) (omega (arith, vars, slice_get_within places j place e, count)) ∙ ap is_row (sym (all j place e ∙ row_first n j k))
+        go (inl k) = (law p j).1 (omega (arith, ranges)) ∙ ap is_row (sym (all j place e ∙ low_first n j k))
+        go (inr k) = (law p j).0 (omega (arith, ranges)) (omega (arith, vars, slice_get_within places j place e, count)) ∙ ap is_row (sym (all j place e ∙ row_first n j k))
 
     high_first : (j : ℕ) (place : Place) → slice_get places j ≡ Some place → (first p).high j ≡ is_high place
     unfolding first

@@ -6,13 +6,12 @@ use Rattle.std.proofs.lemmas.Option.{slice_get_within}
 use Rattle.xc_model.proofs.Results.{over_one, product_stays}
 use Rattle.xc_corners.specs.Choices.{first}
 use Rattle.xc_corners.specs.Corners.{variables, value}
-use Rattle.xc_corners.specs.Laws.{FirstFactors, FirstRowValues}
+use Rattle.xc_corners.specs.Laws.{FirstSolved, FirstAreRows, FirstFactors, FirstRowValues}
 use Rattle.xc_corners.specs.Operations.{IsFactor, entries_of, StandsAtFirst, weight_added, low_times, low_added}
 use Rattle.xc_corners.specs.Problems.{IsWholeProblem}
 use Rattle.xc_corners.specs.Tables.{first_factors}
 use Rattle.xc_corners.specs.WholeNumbers.{whole}
 use Rattle.xc_corners.specs.declared.problem.Problem.{Problem}
-use Rattle.xc_corners.proofs.FirstCorner.{first_solved}
 use Rattle.xc_frac.specs.Passes.{Passes}
 use Rattle.xc_frac.specs.declared.wide.Op.TheVariants.{Mul}
 use Rattle.xc_frac.specs.declared.wide.Wide.{Wide}
@@ -26,11 +25,11 @@ use Rattle.xc_pivot.proofs.FirstPlaces.{row_is, column_is, first_inside, first_p
 use Rattle.xc_pivot.proofs.Summed.{sum_of_one}
 
 module _ (problem : Problem) (s : State) (shaped : IsShaped problem s) (places : AreFirstPlaces (length problem.ranges) s.places.items) where
-  pub first_at : IsWholeProblem (whole problem) → FirstFactors → FirstRowValues → (length (whole problem).ranges ≡ length problem.ranges) → (variables (whole problem) ≡ length problem.ranges + length problem.rows)
+  pub first_at : IsWholeProblem (whole problem) → FirstSolved → FirstAreRows → FirstFactors → FirstRowValues → (length (whole problem).ranges ≡ length problem.ranges) → (variables (whole problem) ≡ length problem.ranges + length problem.rows)
       → HasSums problem (length problem.rows) s.table → HasLowSums problem (length problem.rows) s.values.items → IsAt problem s (first (whole problem)) (first_factors (whole problem))
-  first_at w ff fv ranges vars sums lows = record {
-    solved = first_solved (whole problem) w;
-    placed = first_placed (length problem.ranges) (length problem.rows) s.places.items places shaped.places (whole problem) ranges vars;
+  first_at w solved basic ff fv ranges vars sums lows = record {
+    solved = solved (whole problem) w;
+    placed = first_placed (length problem.ranges) (length problem.rows) s.places.items places shaped.places basic (whole problem) ranges vars;
     factors = λ i j r c f h l has.
         let row = first_inside (length problem.ranges) (length problem.rows) s.places.items places shaped.places in
         let i_is = row_is (length problem.ranges) (length problem.rows) s.places.items places shaped.places i r h in

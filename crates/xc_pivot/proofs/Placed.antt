@@ -4,11 +4,11 @@ use Rattle.std.specs.Prelude.{slice_set}
 use Rattle.std.proofs.lemmas.List.{get_or-set_same, get_or-set_other, length-set}
 use Rattle.std.proofs.lemmas.Option.{slice_get_read, slice_get_within, get_or_from_slice_get}
 use Rattle.xc_corners.specs.Corners.{low_bound, high_bound, bound, Corner, Factors, IsOutside, value}
+use Rattle.xc_corners.specs.Laws.{OtherIsAtBound}
 use Rattle.xc_corners.specs.Pairs.{times}
 use Rattle.xc_corners.specs.Problems.{WholeProblem}
 use Rattle.xc_corners.specs.WholeNumbers.{whole}
 use Rattle.xc_corners.specs.declared.problem.Problem.{Problem}
-use Rattle.xc_corners.proofs.Values.{value_at_other}
 use Rattle.xc_frac.specs.declared.delta.Delta.{Delta}
 use Rattle.xc_model.specs.Parts.{WholeParts}
 use Rattle.xc_model.specs.Ratio.{Ratio}
@@ -59,12 +59,12 @@ on_low places j c read e n (inl h) = h
 on_low places j c read e n (inr h) = absurd (n c (sym (get_or_from_slice_get places j read read e) ∙ get_or_from_slice_get places j (High c) read h))
 
 -- the value of a variable that is not basic is the bound of its side
-pub other_value : (p : WholeProblem) (x : Corner) (t : Factors) (j : ℕ) (s : Bool) (d : Delta Ratio) → 0 < t.over → x.basic j ≡ false → x.high j ≡ s → ArePartsOf p.unit (cond s (high_bound p j) (low_bound p j)) d
+pub other_value : OtherIsAtBound → (p : WholeProblem) (x : Corner) (t : Factors) (j : ℕ) (s : Bool) (d : Delta Ratio) → 0 < t.over → x.basic j ≡ false → x.high j ≡ s → ArePartsOf p.unit (cond s (high_bound p j) (low_bound p j)) d
     → ArePartsOf (t.over * p.unit) (value p x t j) d
 unfolding bound
-other_value p x t j s d some other high h =
+other_value law p x t j s d some other high h =
     let times_bound = bound_times d (cond s (high_bound p j) (low_bound p j)) p.unit t.over some h in
-    let is : value p x t j ≡ times (pos t.over) (cond s (high_bound p j) (low_bound p j)) = value_at_other p x t j other ∙ ap (λ (b : Bool). times (pos t.over) (cond b (high_bound p j) (low_bound p j))) high in
+    let is : value p x t j ≡ times (pos t.over) (cond s (high_bound p j) (low_bound p j)) = law p x t j other ∙ ap (λ (b : Bool). times (pos t.over) (cond b (high_bound p j) (low_bound p j))) high in
     subst (λ (a : WholeParts). ArePartsOf (t.over * p.unit) a d) (sym is) times_bound
 
 pub column_within : (places : List Place) (j c : ℕ) → HasColumn places j c → j < length places

@@ -6,9 +6,9 @@ use Rattle.std.proofs.lemmas.List.{get_or-set_same, get_or-set_other, length-set
 use Rattle.std.proofs.lemmas.Option.{slice_get_read, slice_get_within, get_or_from_slice_get}
 use Rattle.xc_corners.specs.Choices.{exchanged}
 use Rattle.xc_corners.specs.Corners.{Corner}
+use Rattle.xc_corners.specs.Laws.{ExchangeMovesTwo}
 use Rattle.xc_corners.specs.WholeNumbers.{whole}
 use Rattle.xc_corners.specs.declared.problem.Problem.{Problem}
-use Rattle.xc_corners.proofs.Moves.{kept_basic, kept_high, left_basic, entered_basic}
 use Rattle.xc_pivot.specs.States.{is_row, is_high, HasRow, HasColumn, IsInside, ArePlaces}
 use Rattle.xc_pivot.specs.Steps.{left_place, is_left_high, replaced}
 use Rattle.xc_pivot.specs.declared.types.Choice.{Choice}
@@ -142,21 +142,21 @@ module _ (problem : Problem) (m n : ℕ) (x : Corner) (places : List Place) (cho
   unfolding exchanged
   left_high = simp (ne_eqb b q apart, eq-eqb b b refl)
 
-  basic_told : (j : ℕ) (place : Place) → slice_get new j ≡ Some place → y.basic j ≡ is_row place
-  basic_told j place e = go (cases_eq j q) (cases_eq j b)
+  basic_told : ExchangeMovesTwo → (j : ℕ) (place : Place) → slice_get new j ≡ Some place → y.basic j ≡ is_row place
+  basic_told law j place e = go (cases_eq j q) (cases_eq j b)
     where
       go : ((j ≡ q) ⊎ (j ≢ q)) → ((j ≡ b) ⊎ (j ≢ b)) → y.basic j ≡ is_row place
-      go (inl f) d = ap y.basic f ∙ entered_basic (whole problem) x choice.leaving.above b q ∙ ap is_row (sym (from_q place (subst (λ i. slice_get new i ≡ Some place) f e)))
-      go (inr f) (inl d) = ap y.basic d ∙ left_basic (whole problem) x choice.leaving.above b q apart ∙ sym (left_row (is_left_high problem choice) choice.entering.column) ∙ ap is_row (sym (from_b place (subst (λ i. slice_get new i ≡ Some place) d e)))
-      go (inr f) (inr d) = kept_basic (whole problem) x choice.leaving.above b q j d f ∙ a.basic j place (from_other j place d f e)
+      go (inl f) d = ap y.basic f ∙ (law (whole problem) x choice.leaving.above b q).entered ∙ ap is_row (sym (from_q place (subst (λ i. slice_get new i ≡ Some place) f e)))
+      go (inr f) (inl d) = ap y.basic d ∙ (law (whole problem) x choice.leaving.above b q).left apart ∙ sym (left_row (is_left_high problem choice) choice.entering.column) ∙ ap is_row (sym (from_b place (subst (λ i. slice_get new i ≡ Some place) d e)))
+      go (inr f) (inr d) = (law (whole problem) x choice.leaving.above b q).basic j d f ∙ a.basic j place (from_other j place d f e)
 
-  high_told : (j : ℕ) (place : Place) → slice_get new j ≡ Some place → y.high j ≡ is_high place
-  high_told j place e = go (cases_eq j q) (cases_eq j b)
+  high_told : ExchangeMovesTwo → (j : ℕ) (place : Place) → slice_get new j ≡ Some place → y.high j ≡ is_high place
+  high_told law j place e = go (cases_eq j q) (cases_eq j b)
     where
       go : ((j ≡ q) ⊎ (j ≢ q)) → ((j ≡ b) ⊎ (j ≢ b)) → y.high j ≡ is_high place
       go (inl f) d = ap y.high f ∙ entered_high ∙ ap is_high (sym (from_q place (subst (λ i. slice_get new i ≡ Some place) f e)))
       go (inr f) (inl d) = ap y.high d ∙ left_high ∙ sym (left_high_is (is_left_high problem choice) choice.entering.column) ∙ ap is_high (sym (from_b place (subst (λ i. slice_get new i ≡ Some place) d e)))
-      go (inr f) (inr d) = kept_high (whole problem) x choice.leaving.above b q j d f ∙ a.high j place (from_other j place d f e)
+      go (inr f) (inr d) = (law (whole problem) x choice.leaving.above b q).high j d f ∙ a.high j place (from_other j place d f e)
 
   one_row : (i j r : ℕ) → HasRow new i r → HasRow new j r → i ≡ j
   one_row i j r h l = go (row_cases i r h) (row_cases j r l)
@@ -198,15 +198,15 @@ module _ (problem : Problem) (m n : ℕ) (x : Corner) (places : List Place) (cho
       go (inl e) k = (b, subst (λ s. HasColumn new b s) (sym e) (left_column (is_left_high problem choice) at_b))
       go (inr e) k = (k.0, column_there k.0 c (λ f. apart_row_column places b choice.leaving.row c hb (subst (λ j. HasColumn places j c) f k.1)) (λ f. e (column_one places q c choice.entering.column (subst (λ j. HasColumn places j c) f k.1) hq)) k.1)
 
-  no_others : (j : ℕ) → length new ≤ j → (y.basic j ≡ false) × (y.high j ≡ false)
-  no_others j h =
+  no_others : ExchangeMovesTwo → (j : ℕ) → length new ≤ j → (y.basic j ≡ false) × (y.high j ≡ false)
+  no_others law j h =
       let k : j ≢ b = λ e. omega (arith, row_within places b choice.leaving.row hb, new_count, e) in
       let l : j ≢ q = λ e. omega (arith, column_within places q choice.entering.column hq, new_count, e) in
       let old = a.no_others j (omega (arith, new_count)) in
-      (kept_basic (whole problem) x choice.leaving.above b q j k l ∙ old.0, kept_high (whole problem) x choice.leaving.above b q j k l ∙ old.1)
+      ((law (whole problem) x choice.leaving.above b q).basic j k l ∙ old.0, (law (whole problem) x choice.leaving.above b q).high j k l ∙ old.1)
 
-  pub places_next : ArePlaces m n y new
-  places_next = record { basic = basic_told; high = high_told; one_row = one_row; one_column = one_column; each_row = each_row; each_column = each_column; no_others = no_others }
+  pub places_next : ExchangeMovesTwo → ArePlaces m n y new
+  places_next law = record { basic = basic_told law; high = high_told law; one_row = one_row; one_column = one_column; each_row = each_row; each_column = each_column; no_others = no_others law }
 
 left_inside : (m n c : ℕ) (s : Bool) → c < n → IsInside m n (left_place s c)
 left_inside m n c true h = h

@@ -5,9 +5,8 @@ use Rattle.std.proofs.Math.Nat.{mul-pos}
 use Rattle.xc_corners.specs.Corners.{variables, Corner, Factors, IsSolvedForm, value}
 use Rattle.xc_corners.specs.Operations.{part, IsFactor, IsValuePart, IsBasic, IsOther, IsOwnFactor, IsOtherFactor, IsProductFactor, IsGap, IsStep, IsMove, StandsInExchange, own_divided, other_divided, own_times, other_times, other_added, StandsInStep, gap_taken, step_divided, entering_moved, step_times, basic_moved}
 use Rattle.xc_corners.specs.Problems.{WholeProblem}
-use Rattle.xc_corners.proofs.OneChoice.{value_same}
-use Rattle.xc_corners.proofs.SolvedForms.{one_solved_form}
 use Rattle.xc_frac.specs.declared.wide.Wide.{Wide}
+use Rattle.xc_pivot.specs.CornerLaws.{CornerLaws}
 use Rattle.xc_model.specs.Fraction.{SameNumber}
 use Rattle.xc_model.specs.Parts.{WholeParts}
 use Rattle.xc_model.specs.Ratio.{Ratio, fraction_of, IsOver}
@@ -24,16 +23,16 @@ over_other f n m d e p cross h =
 value_cross : (v w s t u : ℤ) → t *ℤ v ≡ s *ℤ w → v *ℤ (t *ℤ u) ≡ w *ℤ (s *ℤ u)
 value_cross v w s t u e = let g : u *ℤ (t *ℤ v) ≡ u *ℤ (s *ℤ w) = ap (λ (z : ℤ). u *ℤ z) e in omega (arith, ints, simp ring at g)
 
-module _ (p : WholeProblem) (x : Corner) (s t : Factors) (fs : IsSolvedForm p x s) (ft : IsSolvedForm p x t) (unit : 0 < p.unit) where
+module _ (laws : CornerLaws) (p : WholeProblem) (x : Corner) (s t : Factors) (fs : IsSolvedForm p x s) (ft : IsSolvedForm p x t) (unit : 0 < p.unit) where
   factor_moves : (k j : ℕ) (f : Ratio) → IsBasic p x k → IsOther p x j → IsFactor s k j f → IsFactor t k j f
-  factor_moves k j f hk hj h = over_other f (s.factor k j) (t.factor k j) s.over t.over ft.positive (one_solved_form p x s t fs ft k j hk.0 hj.0 hk.1 hj.1) h
+  factor_moves k j f hk hj h = over_other f (s.factor k j) (t.factor k j) s.over t.over ft.positive (laws.form p x s t k j fs ft hk.0 hj.0 hk.1 hj.1) h
 
   pub value_moves : (c : Bool) (j : ℕ) (f : Ratio) → j < variables p → IsValuePart p x s c j f → IsValuePart p x t c j f
   value_moves c j f hj h = over_other f _ _ (s.over * p.unit) (t.over * p.unit) (mul-pos ft.positive unit) (value_cross (part c (value p x s j)) (part c (value p x t j)) (pos s.over) (pos t.over) (pos p.unit) (of c)) h
     where
       of : (c : Bool) → pos t.over *ℤ part c (value p x s j) ≡ pos s.over *ℤ part c (value p x t j)
-      of false = ap (λ (a : WholeParts). a.real) (value_same p x s t j hj fs ft)
-      of true = ap (λ (a : WholeParts). a.tiny) (value_same p x s t j hj fs ft)
+      of false = ap (λ (a : WholeParts). a.real) (laws.value p x s t j fs ft hj)
+      of true = ap (λ (a : WholeParts). a.tiny) (laws.value p x s t j fs ft hj)
 
   module _ (b q : ℕ) (hb : IsBasic p x b) (hq : IsOther p x q) where
     own : (u : Ratio) → IsOwnFactor (IsFactor s) b q u → IsOwnFactor (IsFactor t) b q u

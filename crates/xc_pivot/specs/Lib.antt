@@ -1,4 +1,5 @@
 pub mod Bounds
+pub mod CornerLaws
 pub mod Deltas
 pub mod States
 pub mod Walks

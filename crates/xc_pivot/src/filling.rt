@@ -16,7 +16,7 @@ use crate::bounds::{low_of, zero};
 use crate::deltas::{product, sum};
 use crate::types::State;
 use xc_corners::Problem;
-use xc_corners::laws::problems_are_whole;
+use xc_corners::laws::{basic_variables, problems_are_whole, solved_forms};
 use xc_frac::{Delta, Frac, Wide};
 use xc_tableau::Tableau;
 
@@ -155,6 +155,8 @@ pub fn fill(problem: &Problem, state: &mut State) -> Result<(), Wide>
     ensures passes { IfErr result (PassesFirst problem.now) }
 {
     problems_are_whole();
+    basic_variables();
+    solved_forms();
     if let Err(wide) = add_weights(problem, &mut state.table) {
         return Err(wide);
     }

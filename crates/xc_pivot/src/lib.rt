@@ -6,6 +6,7 @@ mod bounds;
 mod choosing;
 mod deltas;
 mod filling;
+mod laws;
 mod quotients;
 mod refuting;
 mod small;

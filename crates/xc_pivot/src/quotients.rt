@@ -15,7 +15,7 @@ use crate::deltas::difference;
 use crate::types::{Place, State};
 use std::cmp::Ordering;
 use xc_corners::Problem;
-use xc_corners::laws::problems_are_whole;
+use xc_corners::laws::{problems_are_whole, values_at_corners};
 use xc_frac::{Delta, Frac, Wide};
 
 /// The value of a variable.
@@ -26,6 +26,7 @@ pub fn value_of(problem: &Problem, state: &State, variable: u32) -> Delta<Frac>
     ensures value { (x : Corner) (t : Factors) → IsAt problem.now state.now x t
         → ArePartsOf (t.over * (whole problem.now).unit) (value (whole problem.now) x t variable) result }
 {
+    values_at_corners();
     match state.places[variable as usize] {
         Place::Row(row) => state.values[row as usize],
         Place::Low(_) => low_of(problem, variable),

@@ -9,6 +9,7 @@ ghost use Rattle.xc_pivot.specs.States.{IsShaped, IsAt};
 ghost use Rattle.xc_pivot.specs.Walks.{IsStop};
 
 use crate::choosing::leaving;
+use crate::laws::corner_laws;
 use crate::refuting::multipliers;
 use crate::small::{put_values, small_number};
 use crate::starting::start;
@@ -32,6 +33,7 @@ pub fn solve(alloc: Global, problem: &Problem) -> Result<Outcome, Memory>
     ensures too_wide { IfOk result (IfStopped (StopsAt problem.now)) }
 {
     problems_are_whole();
+    corner_laws();
     conflicts_contradict();
     feasible_corners_solve();
     let mut state = start(alloc, problem)?;

@@ -16,7 +16,8 @@ use crate::deltas::{difference, product, quotient, sum};
 use crate::types::{Choice, Place, State};
 use xc_corners::Problem;
 use xc_corners::laws::{
-    operations_give_factors, operations_give_values, problems_are_whole, solved_forms,
+    basic_variables, operations_give_factors, operations_give_values, problems_are_whole,
+    solved_forms, values_at_corners,
 };
 use xc_frac::{Delta, Frac, Wide};
 use xc_tableau::Tableau;
@@ -96,6 +97,7 @@ fn side_bound(problem: &Problem, state: &State, choice: &Choice) -> Delta<Frac>
     ensures value { (x : Corner) (t : Factors) → IsAt problem.now state.now x t
         → IsEnteringValue (whole problem.now) x t choice.now result }
 {
+    values_at_corners();
     match state.places[choice.entering.variable as usize] {
         Place::High(_) => high_of(problem, choice.entering.variable),
         _ => low_of(problem, choice.entering.variable),
@@ -255,6 +257,7 @@ pub fn exchange(problem: &Problem, state: &mut State, choice: &Choice) -> Result
         → IfErr result (PassesNext (whole problem.now) x t choice.now) }
 {
     problems_are_whole();
+    basic_variables();
     solved_forms();
     operations_give_factors();
     operations_give_values();

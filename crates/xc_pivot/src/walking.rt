@@ -12,6 +12,7 @@ ghost use Rattle.xc_pivot.specs.Walks.{TellsCorner, IsLastCorner, IsTooWideAt, N
 
 use crate::choosing::choice;
 use crate::filling::fill;
+use crate::laws::corner_laws;
 use crate::starting::start;
 use crate::stepping::exchange;
 use crate::turns::Turns;
@@ -19,7 +20,7 @@ use crate::types::{Place, State, Walk};
 use std::alloc::Global;
 use std::marker::Brand;
 use std::sync::ledger::{Blank, Ledger};
-use xc_corners::laws::{problems_are_whole, runs_end};
+use xc_corners::laws::{basic_variables, problems_are_whole, runs_end};
 use xc_corners::{Corner, Problem};
 use xc_frac::Wide;
 use xc_lists::Memory;
@@ -59,6 +60,7 @@ pub fn to_the_end(problem: &Problem, state: &mut State) -> Option<Wide>
     ensures some { IfSome result (EndsTooWide problem.now state.new.places.items) }
 {
     problems_are_whole();
+    basic_variables();
     match fill(problem, state) {
         Err(wide) => Some(wide),
         Ok(()) => run::<Brand>(problem, state, Blank::new(1)),
@@ -80,6 +82,7 @@ fn run<L: Ledger>(problem: &Problem, state: &mut State, blank: Blank) -> Option<
     ensures some { IfSome result (EndsTooWide problem.now state.new.places.items) }
 {
     problems_are_whole();
+    corner_laws();
     runs_end();
     let mut turns: Turns<L> = Turns::new(blank);
     while let Some(choice) = choice(problem, state) {

@@ -1,6 +1,5 @@
 use Rattle.xc_corners.specs.Corners.{low_bound, high_bound}
 use Rattle.xc_corners.specs.WholeNumbers.{whole}
-use Rattle.xc_corners.proofs.Moves.{open_from_problem}
 use Rattle.xc_pivot.proofs.Beside.{free_tells}
 use Rattle.xc_pivot.proofs.choosing.is_free.Goals as goal
 
@@ -9,4 +8,4 @@ returns c =
     let p = whole c.args.problem.now in
     let l = low_bound p c.args.variable in
     let h = high_bound p c.args.variable in
-    record { free = free_tells c.is_below.result l h (open_from_problem p (c.problems_are_whole.ensures.whole c.args.problem.now c.requires.problem) c.args.variable) (c.is_below.ensures p.unit l h c.low_of.ensures.low c.high_of.ensures.high) }
+    record { free = free_tells c.is_below.result l h (c.problems_are_whole.ensures.order p c.args.variable (c.problems_are_whole.ensures.whole c.args.problem.now c.requires.problem)) (c.is_below.ensures p.unit l h c.low_of.ensures.low c.high_of.ensures.high) }

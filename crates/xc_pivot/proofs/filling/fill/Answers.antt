@@ -38,7 +38,7 @@ returns c =
       places = λ i. s.places;
       shaped = if_done r _ _ (IsShaped problem final) c.low_values.ensures.is c.low_values.ensures.stays (λ lows stays. shaped);
       at = if_done r _ _ (IsAt problem final (first (whole problem)) (first_factors (whole problem))) c.low_values.ensures.is c.low_values.ensures.stays
-          (λ lows stays. first_at problem final shaped c.requires.places (laws.whole problem c.requires.problem) laws.factors laws.rows (laws.variables problem).0 (laws.variables problem).1 o.sums
+          (λ lows stays. first_at problem final shaped c.requires.places (laws.whole problem c.requires.problem) c.solved_forms.ensures.first c.basic_variables.ensures.first laws.factors laws.rows (laws.variables problem).0 (laws.variables problem).1 o.sums
           (subst (λ (vs : List (Delta Ratio)). HasLowSums problem (length problem.rows) vs) (sym is) lows));
       fits = if_done r _ _ ((w : Wide) → ¬ PassesFirst problem w) c.low_values.ensures.is c.low_values.ensures.stays (λ lows stays. first_stays problem o.stays stays);
       passes = c.low_values.ensures.passes;

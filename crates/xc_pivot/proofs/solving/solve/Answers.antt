@@ -28,7 +28,7 @@ returns-in-Some-leaving-clause-infeasible c =
     let end = c.in_default.ensures.none in
     let leaving = c.in-Some-leaving.leaving in
     let leaves = (c.in-Some-leaving.ensures.some end.corner end.factors end.at).leaves in
-    let conflict = conflict_here (whole problem) w end.corner end.factors leaving.above leaving.variable end.at.solved end.none leaves in
+    let conflict = conflict_here c.corner_laws.ensures (whole problem) w end.corner end.factors leaving.above leaving.variable end.at.solved end.none leaves in
     let are = c.in_ok-refutation.ensures end.corner end.factors end.at in
     record {
       contradicts = c.conflicts_contradict.ensures.contradicts problem end.corner end.factors leaving.above leaving.variable c.in_ok-refutation.refutation c.requires.problem (record { solved = end.at.solved; conflict = conflict }) are;
@@ -39,7 +39,7 @@ returns-in-Some-leaving-clause-infeasible c =
       variable = leaving.variable;
       at = record { solved = end.at.solved; conflict = conflict };
       are = are;
-      nothing = nothing_conflict problem w end.corner end.factors end.at.solved end.none end.last.reached end.nothing leaving.above leaving.variable conflict;
+      nothing = nothing_conflict c.corner_laws.ensures problem w end.corner end.factors end.at.solved end.none end.last.reached end.nothing leaving.above leaving.variable conflict;
     }
 
 pub returns-in-Some-put_feasible-clause-too_wide : goal.returns-in-Some-put_feasible-clause-too_wide
@@ -50,7 +50,7 @@ returns-in-Some-put_feasible-clause-too_wide c =
     let feasible = c.in_default-leaving.ensures.none end.corner end.factors end.at in
     stops_at c.stopped-in-Some-put_feasible.result c.to_the_end.new.state.places.items c.in-Some-put_feasible.wide c.stopped-in-Some-put_feasible.ensures problem (length problem.rows) (length problem.ranges)
     end.corner end.at.placed end.last.reached
-    (passes_feasible problem w end.corner end.factors end.at.solved end.none end.last.reached end.nothing c.in-Some-put_feasible.wide feasible (c.in-Some-put_feasible.ensures.some end.corner end.factors end.at))
+    (passes_feasible c.corner_laws.ensures problem w end.corner end.factors end.at.solved end.none end.last.reached end.nothing c.in-Some-put_feasible.wide feasible (c.in-Some-put_feasible.ensures.some end.corner end.factors end.at))
 
 pub returns-clause-feasible : goal.returns-clause-feasible
 returns-clause-feasible c =
@@ -71,5 +71,5 @@ returns-clause-feasible c =
       small = done.small;
       is_small = done.is_small;
       are = done.are;
-      nothing = nothing_feasible problem w end.corner end.factors end.at.solved end.none end.last.reached end.nothing done.small done.is_small done.small_stays done.values_stay;
+      nothing = nothing_feasible c.corner_laws.ensures problem w end.corner end.factors end.at.solved end.none end.last.reached end.nothing done.small done.is_small done.small_stays done.values_stay;
     })

@@ -87,7 +87,7 @@ returns-clause-at c x t at chosen =
     let step = c.in-Ok.ensures.is x t at in
     let rest = subst (λ (n : ℕ). AreMoved (whole problem) x t o s.places.items n vs) (sym c.in_default.ensures.count) (c.in_default.ensures.done x t at step) in
     next_at problem s x t o c.requires.shaped at chosen (c.requires.shaped.places ∙ sym (c.problems_are_whole.ensures.variables problem).1) final vs c.in-Ok-entering_moved.entering (c.problems_are_whole.ensures.whole problem c.requires.problem)
-    c.solved_forms.ensures.next laws.entering laws.leaving laws.others c.operations_give_values.ensures.entering c.operations_give_values.ensures.basic
+    c.basic_variables.ensures.exchanged c.solved_forms.ensures.next laws.entering laws.leaving laws.others c.operations_give_values.ensures.entering c.operations_give_values.ensures.basic
     exchanged values places (c.in_default.ensures.count ∙ c.requires.shaped.values) (c.in-Ok-entering_moved.ensures.is x t at step) rest
 
 pub returns-clause-fits : goal.returns-clause-fits

@@ -7,25 +7,25 @@ use Rattle.xc_corners.specs.Problems.{IsWholeProblem}
 use Rattle.xc_corners.specs.Tables.{first_factors, pivoted}
 use Rattle.xc_corners.specs.WholeNumbers.{whole}
 use Rattle.xc_corners.specs.declared.problem.Problem.{Problem}
-use Rattle.xc_corners.proofs.Runs.{one_more, one_run}
 use Rattle.xc_frac.specs.declared.wide.Wide.{Wide}
 use Rattle.xc_model.proofs.Over.{sign_over}
+use Rattle.xc_pivot.specs.CornerLaws.{CornerLaws}
 use Rattle.xc_pivot.specs.States.{ArePlaces}
 use Rattle.xc_pivot.proofs.Ended.{exchange_of, passes_at, none_at, nothing_at_all, is_last}
 use Rattle.xc_pivot.proofs.Exchanges.{helps_some}
 use Rattle.xc_pivot.proofs.walking.run.Goals as goal
 
 -- one turn more, and at none before it an operation passes
-before_next : (problem : Problem) → IsWholeProblem (whole problem) → (x : Corner) (n : ℕ) → IsReachedBy (whole problem) n x
+before_next : CornerLaws → (problem : Problem) → IsWholeProblem (whole problem) → (x : Corner) (n : ℕ) → IsReachedBy (whole problem) n x
     → ((k : ℕ) (y : Corner) (v : Wide) → k < n → IsReachedBy (whole problem) k y → ¬ PassesAt problem y v) → ((v : Wide) → ¬ PassesAt problem x v)
     → (k : ℕ) (y : Corner) (v : Wide) → k < n + 1 → IsReachedBy (whole problem) k y → ¬ PassesAt problem y v
-before_next problem w x n reached before here k y v h r = go (cases_lt k n)
+before_next laws problem w x n reached before here k y v h r = go (cases_lt k n)
   where
     go : ((k < n) ⊎ (n ≤ k)) → ¬ PassesAt problem y v
     go (inl less) = before k y v less r
     go (inr more) =
         let e : k ≡ n = omega (arith, h, more) in
-        subst (λ z. ¬ PassesAt problem z v) (one_run (whole problem) w n (first (whole problem)) x y reached (subst (λ m. IsReachedBy (whole problem) m y) e r)) (here v)
+        subst (λ z. ¬ PassesAt problem z v) (laws.run (whole problem) n x y w reached (subst (λ m. IsReachedBy (whole problem) m y) e r)) (here v)
 
 pub loop-choice-init : goal.loop-choice-init
 loop-choice-init g c = record {
@@ -76,8 +76,8 @@ returns-clause-none g c =
       factors = turn.factors;
       at = turn.at;
       none = none;
-      last = is_last problem w turn.corner turn.factors turn.at.solved c.requires.fits none c.loop-choice.turns turn.reached;
-      nothing = nothing_at_all problem w turn.corner turn.factors turn.at.solved c.requires.fits none c.loop-choice.turns turn.reached turn.before;
+      last = is_last problem w turn.corner turn.factors turn.at.solved c.corner_laws.ensures c.requires.fits none c.loop-choice.turns turn.reached;
+      nothing = nothing_at_all problem w turn.corner turn.factors turn.at.solved c.corner_laws.ensures c.requires.fits none c.loop-choice.turns turn.reached turn.before;
     }
 
 pub loop-choice-preserved : goal.loop-choice-preserved
@@ -96,10 +96,10 @@ loop-choice-preserved g c =
         factors = pivoted turn.factors choice.leaving.variable choice.entering.variable;
         at = c.in_default-exchange.ensures.at turn.corner turn.factors turn.at chosen;
         reached = subst (λ n. IsReachedBy (whole problem) n next) later
-            (one_more (whole problem) c.loop-choice.turns (first (whole problem)) turn.corner next choice.leaving.variable choice.entering.variable turn.reached
+            (c.corner_laws.ensures.on (whole problem) c.loop-choice.turns turn.corner next choice.leaving.variable choice.entering.variable turn.reached
             (exchange_of problem w turn.corner turn.factors turn.at.solved c.loop-choice.state.places.items choice chosen));
-        before = λ k y v h r. before_next problem w turn.corner c.loop-choice.turns turn.reached turn.before
-            (none_at problem w turn.corner turn.factors turn.at.solved c.requires.fits c.loop-choice.state.places.items choice chosen (c.in_default-exchange.ensures.fits turn.corner turn.factors turn.at chosen))
+        before = λ k y v h r. before_next c.corner_laws.ensures problem w turn.corner c.loop-choice.turns turn.reached turn.before
+            (none_at problem w turn.corner turn.factors turn.at.solved c.corner_laws.ensures c.requires.fits c.loop-choice.state.places.items choice chosen (c.in_default-exchange.ensures.fits turn.corner turn.factors turn.at chosen))
             k y v (omega (arith, h, c.tick.ensures)) r;
       };
     }

@@ -10,7 +10,7 @@ pub returns-in-Err-clause-some : goal.returns-in-Err-clause-some
 returns-in-Err-clause-some c = record {
   corner = first (whole c.args.problem.now);
   placed = subst (λ ps. ArePlaces (length c.args.problem.now.rows) (length c.args.problem.now.ranges) (first (whole c.args.problem.now)) ps.items) (sym c.in-Err.ensures.places)
-      (first_placed (length c.args.problem.now.ranges) (length c.args.problem.now.rows) c.args.state.now.places.items c.requires.places c.requires.shaped.places (whole c.args.problem.now)
+      (first_placed (length c.args.problem.now.ranges) (length c.args.problem.now.rows) c.args.state.now.places.items c.requires.places c.requires.shaped.places c.basic_variables.ensures.first (whole c.args.problem.now)
       (c.problems_are_whole.ensures.variables c.args.problem.now).0 (c.problems_are_whole.ensures.variables c.args.problem.now).1);
   reached = (0, refl);
   passes = record { stands = at_first refl c.in-Err.ensures.passes.stands; passes = c.in-Err.ensures.passes.passes };

@@ -1,14 +1,13 @@
 -- The number of the point of a concept with a key is the first place of the two.
-use Rattle.std.proofs.Common.{◌≡◌, ◌&&◌, ◌==◌, ◌<◌, ℕ, List, Some, length, map, refl, ◌∙◌, arith}
-use Rattle.std.proofs.lemmas.Bool.Decides.{nat_tests}
+use Rattle.std.proofs.Common.{◌≡◌, ◌<◌, ℕ, List, Some, length, map, refl, ◌∙◌, arith}
 use Rattle.std.specs.Ordering.{nat_cmp, is_eq, ordering_then}
 use Rattle.std.specs.declared.cmp.Ordering.{Ordering}
-use Rattle.std.specs.declared.cmp.Ordering.TheVariants.{Less, Equal, Greater}
 use Rattle.xc_bind.specs.Bindings.{is_point_of, number_of}
 use Rattle.xc_bind.specs.Steps.Places.{place_at}
 use Rattle.xc_points.specs.Places.{place_of}
 use Rattle.xc_points.specs.declared.types.Place.{Place}
 use Rattle.xc_lists.specs.Firsts.{first_equal}
+use Rattle.xc_lists.proofs.Orderings.{is_eq-nat_cmp, is_eq-then}
 use Rattle.xc_lists.proofs.Positions.{find_at, position_from_congr, position_from-map}
 use Rattle.xc_names.specs.declared.expanded.NameId.{NameId}
 use Rattle.xc_points.specs.declared.types.Point.{Point}
@@ -16,14 +15,6 @@ use Rattle.xc_points.specs.declared.types.Point.{Point}
 -- by concept, and then by key
 abbrev pub place_cmp : Place → Place → Ordering
 place_cmp a b = ordering_then (nat_cmp a.concept.0 b.concept.0) (nat_cmp a.key b.key)
-
-is_eq-nat_cmp : (m n : ℕ) → is_eq (nat_cmp m n) ≡ (m == n)
-is_eq-nat_cmp m n = grind (arith, nat_tests)
-
-is_eq-then : (a b : Ordering) → is_eq (ordering_then a b) ≡ (is_eq a && is_eq b)
-is_eq-then Less b = refl
-is_eq-then Equal b = refl
-is_eq-then Greater b = refl
 
 is_eq-place : (concept : NameId) (key : ℕ) (point : Point) → is_eq (place_cmp (place_at concept key) (place_of point)) ≡ is_point_of concept key point
 is_eq-place concept key point = rw (is_eq-then (nat_cmp concept.0 point.concept.0) (nat_cmp key point.key), is_eq-nat_cmp concept.0 point.concept.0, is_eq-nat_cmp key point.key) refl

@@ -1,5 +1,5 @@
 -- Locators that are put into lists by link and label.
-use Rattle.std.proofs.Common.{◌≡◌, ◌==◌, ◌&&◌, ◌+◌, ◌++◌, ℕ, List, [], ◌∷◌, Bool, true, false, Option, Some, None, codes, filter, is_some, if◌then◌else◌, refl, sym, ap, ◌∙◌, append-nil, arith}
+use Rattle.std.proofs.Common.{◌≡◌, ◌==◌, ◌&&◌, ◌+◌, ◌++◌, ℕ, List, [], ◌∷◌, Bool, true, false, Option, Some, None, codes, filter, is_some, refl, sym, ap, ◌∙◌, append-nil, arith, if◌then◌else◌}
 use Rattle.std.proofs.lemmas.Bool.Decides.{nat_tests}
 use Rattle.std.proofs.lemmas.Cmp.{nat_list_eq_equiv}
 use Rattle.std.proofs.lemmas.Map.Text.{is_eq-slice_cmp}
@@ -8,7 +8,7 @@ use Rattle.std.specs.Option.{option_map_or}
 use Rattle.std.specs.Ordering.{nat_cmp, is_eq}
 use Rattle.std.specs.Str.{bytes_eq}
 use Rattle.xc_calc.proofs.Filtered.{filtered_by}
-use Rattle.xc_calc.proofs.Rivals.{is_eq-then}
+use Rattle.xc_lists.proofs.Orderings.{is_eq-then}
 use Rattle.xc_calc.specs.Steps.Labels.{by_label, both, labelled_view, labelled_at}
 use Rattle.xc_calc.specs.Linkbases.{is_link_element, is_locator, is_text, xlink_at}
 use Rattle.xc_calc.specs.declared.locators.Labelled.{Labelled}

@@ -1,7 +1,6 @@
 -- Arcs that are compared with one stand among those that have in common with it what equivalent ones have.
-use Rattle.std.proofs.Common.{◌≡◌, ◌==◌, ◌&&◌, ◌||◌, ◌++◌, ℕ, List, [], ◌∷◌, Bool, true, false, not, take, map, filter, true≢false, if◌then◌else◌, refl, sym, ap, ◌∙◌, arith}
+use Rattle.std.proofs.Common.{◌≡◌, ◌==◌, ◌&&◌, ◌||◌, ◌++◌, ℕ, List, [], ◌∷◌, Bool, true, false, not, take, map, filter, true≢false, refl, sym, ap, ◌∙◌, if◌then◌else◌}
 use Rattle.std.proofs.lemmas.Bool.{and_parts}
-use Rattle.std.proofs.lemmas.Bool.Decides.{nat_tests}
 use Rattle.std.proofs.lemmas.List.{map-append}
 use Rattle.std.proofs.lemmas.List.Elements.{filter-append}
 use Rattle.std.proofs.lemmas.Map.Text.{is_eq-slice_cmp}
@@ -9,13 +8,12 @@ use Rattle.std.specs.Cmp.Lexicographic.{slice_cmp}
 use Rattle.std.specs.Ordering.{nat_cmp, int_cmp, is_eq, ordering_then, int_eq}
 use Rattle.std.specs.Prelude.{int_lt}
 use Rattle.std.specs.Str.{bytes_eq}
-use Rattle.std.specs.declared.cmp.Ordering.{Ordering}
-use Rattle.std.specs.declared.cmp.Ordering.TheVariants.{Less, Equal, Greater}
 use Rattle.xc_calc.specs.Effective.{are_same, is_same_number, is_equivalent, is_prohibited, is_higher, is_rival, is_barred_by, is_effective}
 use Rattle.xc_calc.specs.Steps.{number_of, by_number, is_number, by_common, IsCommonOf, has_common, is_effective_among}
 use Rattle.xc_calc.specs.declared.effective.Common.{Common}
 use Rattle.xc_calc.specs.declared.effective.Number.{Number}
 use Rattle.xc_decimal.specs.Shortest.{Shortest}
+use Rattle.xc_lists.proofs.Orderings.{is_eq-nat_cmp, is_eq-then}
 use Rattle.xc_lists.proofs.Anys.{any_map}
 use Rattle.std.specs.Borrow.{Bor}
 use Rattle.std.specs.List.{list_any}
@@ -30,14 +28,6 @@ found_among p t within (x ∷ xs) = by (p x) (t x) refl refl (found_among p t wi
     by a true e f rest = ap (λ c. c || list_any p (filter t xs)) e ∙ ap (λ c. a || c) rest
     by true false e f rest = absurd (true≢false (sym (within x e) ∙ f))
     by false false e f rest = rest
-
-pub is_eq-nat_cmp : (m n : ℕ) → is_eq (nat_cmp m n) ≡ (m == n)
-is_eq-nat_cmp m n = grind (arith, nat_tests)
-
-pub is_eq-then : (a b : Ordering) → is_eq (ordering_then a b) ≡ (is_eq a && is_eq b)
-is_eq-then Less b = refl
-is_eq-then Equal b = refl
-is_eq-then Greater b = refl
 
 along : (a b c d e : Bool) → (a && (b && (c && (d && e)))) ≡ (a && b && c && d && e)
 along false b c d e = refl

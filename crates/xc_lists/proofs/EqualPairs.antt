@@ -1,13 +1,13 @@
 -- Two that are equal, found by a set of those that have been seen.
-use Rattle.std.proofs.Common.{◌≡◌, Bool, true, false, not, cond, ◌&&◌, ◌||◌, List, [], ◌∷◌, map, refl, sym, ap, ◌∙◌}
+use Rattle.std.proofs.Common.{◌≡◌, Bool, true, false, not, cond, ◌||◌, List, [], ◌∷◌, map, refl, sym, ap, ◌∙◌}
 use Rattle.std.specs.List.{list_any}
 use Rattle.std.specs.Ordering.{nat_cmp, is_eq, ordering_then}
 use Rattle.std.specs.Cmp.Lexicographic.{slice_cmp}
 use Rattle.std.specs.declared.cmp.Ordering.{Ordering}
-use Rattle.std.specs.declared.cmp.Ordering.TheVariants.{Less, Equal, Greater}
 use Rattle.std.proofs.lemmas.Map.Text.{is_eq-slice_cmp}
 use Rattle.xc_lists.specs.Doubles.{has_same, has_equal, lent_texts, are_same_texts}
 use Rattle.xc_lists.specs.declared.doubles.TextPair.{TextPair}
+use Rattle.xc_lists.proofs.Orderings.{is_eq-then}
 use Rattle.xc_lists.proofs.Anys.{no_one}
 use Rattle.xc_lists.proofs.ListsOfImages.{any_changed}
 
@@ -53,11 +53,6 @@ same_map t u v [] h = refl
 same_map t u v (x ∷ xs) h =
     ap (λ b. b || has_same t xs) (sym (any_changed v (u (v x)) (t x) (λ y. sym (h x y)) xs))
     ∙ ap (λ b. list_any (u (v x)) (map v xs) || b) (same_map t u v xs h)
-
-is_eq-then : (o p : Ordering) → is_eq (ordering_then o p) ≡ (is_eq o && is_eq p)
-is_eq-then Less p = refl
-is_eq-then Equal p = refl
-is_eq-then Greater p = refl
 
 -- by the first texts, and then by the second
 abbrev pair_cmp : TextPair → TextPair → Ordering

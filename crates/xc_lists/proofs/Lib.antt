@@ -6,6 +6,7 @@ pub mod Lacking
 pub mod ListsOfImages
 pub mod Members
 pub mod Onces
+pub mod Orderings
 pub mod Outcomes
 pub mod Positions
 pub mod Ranges

@@ -1,6 +1,5 @@
 -- The number of the first fact of each one's point.
 use Rattle.std.proofs.Common.{◌≡◌, ℕ, ◌<◌, ◌≤◌, ◌==◌, ◌&&◌, Bool, true, not, List, length, map, get_or, Some, slice_get, arith, sym, ap, ◌∙◌, true≢false, inl, inr}
-use Rattle.std.proofs.lemmas.Bool.Decides.{nat_tests}
 use Rattle.std.proofs.lemmas.List.{get_or-map, length-map}
 use Rattle.std.proofs.lemmas.List.Sums.{prefix_len_passes}
 use Rattle.std.proofs.lemmas.Option.{slice_get_cases}
@@ -10,6 +9,7 @@ use Rattle.std.specs.List.{position_or_len}
 use Rattle.std.specs.Ordering.{is_eq, nat_cmp}
 use Rattle.std.specs.Prelude.{All}
 use Rattle.xc_lists.specs.Firsts.{first_places, first_or_len}
+use Rattle.xc_lists.proofs.Orderings.{is_eq-nat_cmp}
 use Rattle.xc_lists.proofs.Positions.{position_or_len_congr, position_or_len-map}
 use Rattle.xc_points.proofs.Together.{same_together, same_refl}
 use Rattle.xc_points.specs.Gathered.{is_together}
@@ -17,15 +17,12 @@ use Rattle.xc_points.specs.Steps.Members.{fact_place, firsts_of}
 use Rattle.xc_points.specs.contracts.types.PlaceOrd.TheImpl as order
 use Rattle.xc_report.specs.declared.reports.Fact.{Fact}
 
-equal_test : (x y : ℕ) → is_eq (nat_cmp x y) ≡ (x == y)
-equal_test x y = grind (arith, nat_tests)
-
 -- the derived order of places ties facts of one point alone
 same_place : (a b : Fact) → is_eq (order.cmp-value.it (fact_place a) (fact_place b)) ≡ is_together a b
 same_place a b =
     sym (tied_then (nat_cmp a.concept.0 b.concept.0) (nat_cmp a.key b.key))
-    ∙ ap (λ t. t && is_eq (nat_cmp a.key b.key)) (equal_test a.concept.0 b.concept.0)
-    ∙ ap (λ t. (a.concept.0 == b.concept.0) && t) (equal_test a.key b.key)
+    ∙ ap (λ t. t && is_eq (nat_cmp a.key b.key)) (is_eq-nat_cmp a.concept.0 b.concept.0)
+    ∙ ap (λ t. (a.concept.0 == b.concept.0) && t) (is_eq-nat_cmp a.key b.key)
 
 first_is : (facts : List Fact) (a : Fact) → first_or_len order.cmp-value.it (fact_place a) (map fact_place facts) ≡ position_or_len (is_together a) facts
 first_is facts a =

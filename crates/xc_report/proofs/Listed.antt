@@ -1,13 +1,10 @@
 -- A number has a first place among others exactly where it is listed.
-use Rattle.std.proofs.Common.{◌≡◌, ◌+◌, ◌==◌, ◌||◌, ℕ, List, [], ◌∷◌, Bool, true, false, cond, Some, None, is_some, refl, ap, ◌∙◌, arith}
+use Rattle.std.proofs.Common.{◌≡◌, ◌+◌, ◌==◌, ◌||◌, ℕ, List, [], ◌∷◌, Bool, true, false, cond, Some, None, is_some, refl, ap, ◌∙◌}
 use Rattle.std.specs.List.{position_from}
 use Rattle.std.specs.Ordering.{nat_cmp, is_eq}
-use Rattle.std.proofs.lemmas.Bool.Decides.{nat_tests}
+use Rattle.xc_lists.proofs.Orderings.{is_eq-nat_cmp}
 use Rattle.xc_names.specs.declared.expanded.NameId.{NameId}
 use Rattle.xc_report.specs.Wanted.{is_listed, listed}
-
-is_eq-nat_cmp : (m n : ℕ) → is_eq (nat_cmp m n) ≡ (m == n)
-is_eq-nat_cmp m n = grind (arith, nat_tests)
 
 placed : (id : NameId) (from : ℕ) (ids : List NameId) → is_some (position_from (λ (other : NameId). is_eq (nat_cmp id.0 other.0)) from ids) ≡ is_listed ids id.0
 placed id from [] = refl

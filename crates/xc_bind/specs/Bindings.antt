@@ -25,6 +25,7 @@ leads_from concept arc = concept.0 == arc.from.0
 abbrev pub arcs_from : List Arc → NameId → List Arc
 arcs_from arcs concept = filter (leads_from concept) arcs
 
+-- the contributor at this point, with this weight
 abbrev pub term_with : Shortest → ℕ → Term
 term_with weight point = record { point = point; weight = weight }
 

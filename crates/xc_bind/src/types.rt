@@ -7,7 +7,7 @@ use xc_lists::Items;
 pub struct Term {
     /// The number of its data point.
     pub point: u32,
-    /// The weight of its arc. It is not 0.
+    /// The weight of its arc.
     pub weight: Decimal,
 }
 
@@ -27,7 +27,7 @@ pub struct Binding {
 pub enum Verdict {
     /// Values exist in the ranges of the points, such that the total's is the sum of the terms', each with its weight.
     Consistent,
-    /// They do not.
+    /// No values in the ranges of the points are such that the total's is the sum of the terms', each with its weight.
     Inconsistent,
     /// A point has facts that no value satisfies together.
     Unjudged,

@@ -38,6 +38,7 @@ abbrev pub order_of : Option (List ℕ) → Option Shortest
 order_of None = decimal_of (codes "1")
 order_of (Some text) = decimal_of text
 
+-- the order of an arc element
 abbrev pub order_at : List Node → ℕ → Option Shortest
 order_at nodes at = order_of (plain_at nodes at (codes "order"))
 
@@ -62,6 +63,7 @@ abbrev pub priority_of : Option (List ℕ) → Option ℤ
 priority_of None = Some (pos 0)
 priority_of (Some text) = integer_of text
 
+-- its priority
 abbrev pub priority_at : List Node → ℕ → Option ℤ
 priority_at nodes at = priority_of (plain_at nodes at (codes "priority"))
 
@@ -74,6 +76,7 @@ abbrev pub use_of : Option (List ℕ) → Option Use
 use_of None = Some Optional
 use_of (Some text) = use_named text
 
+-- its use
 abbrev pub use_at : List Node → ℕ → Option Use
 use_at nodes at = use_of (plain_at nodes at (codes "use"))
 
@@ -85,6 +88,7 @@ is_own_name local = bytes_eq local (codes "use") || bytes_eq local (codes "prior
 abbrev pub is_exempt : Attribute → Bool
 is_exempt a = bytes_eq a.space xlink_space || bytes_eq a.space declarations_space || (bytes_eq a.space [] && is_own_name a.local)
 
+-- the attribute is compared where arcs are
 abbrev pub is_other : Attribute → Bool
 is_other a = not (is_exempt a)
 

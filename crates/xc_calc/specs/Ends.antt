@@ -34,6 +34,7 @@ locators nodes link label = filter (is_locator nodes link label) (places nodes)
 abbrev pub end_of_link : List Node → Option (List ℕ) → ℕ → List ℕ
 end_of_link nodes label link = option_map_or (locators nodes link) label []
 
+-- the locators that an arc element names at one of its ends, `from` or `to`
 abbrev pub end_at : List Node → ℕ → List ℕ → List ℕ
 end_at nodes at local = option_map_or (end_of_link nodes (xlink_at nodes at local)) (parent_of nodes at) []
 

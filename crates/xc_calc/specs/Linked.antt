@@ -41,6 +41,7 @@ pub record Drawn : Type 0 where
 abbrev pub role_around : List Node → ℕ → List ℕ
 role_around nodes at = option_map_or (role_at nodes) (parent_of nodes at) []
 
+-- what an arc element says, by its place and its attributes
 abbrev pub drawn_as : List Node → ℕ → Shortest → Shortest → ℤ → Use → Drawn
 drawn_as nodes at weight order priority usage = record { role = role_around nodes at; weight = weight; order = order; others = others_at nodes at; priority = priority; usage = usage }
 

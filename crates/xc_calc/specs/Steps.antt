@@ -55,6 +55,7 @@ pub record IsCommonOf (key : Common) (a : ListedArc) : Type 0 where
   pub weight : key.weight ≡ number_of a.arc.weight
   pub order : key.order ≡ number_of a.order
 
+-- a number in code and a decimal are the same
 abbrev pub is_number : Number → Shortest → Bool
 is_number n d = int_eq n.digits d.digits && (n.places == d.places)
 

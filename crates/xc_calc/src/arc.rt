@@ -19,7 +19,7 @@ pub struct Arc {
     pub from: NameId,
     /// The contributor.
     pub to: NameId,
-    /// It is not 0.
+    /// By how much the contributor counts. A linkbase with a weight of 0 is refused (`ZeroWeight`).
     pub weight: Decimal,
 }
 

@@ -14,6 +14,7 @@ pub record Reference : Type 0 where
   pub at : ℕ
   pub text : List ℕ
 
+-- a reference at this node, with this text
 abbrev pub make_reference : ℕ → List ℕ → Reference
 make_reference at text = record { at = at; text = text }
 

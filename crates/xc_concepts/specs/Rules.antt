@@ -37,7 +37,7 @@ repeats_id nodes at = is_repeated bytes_eq [] (id_at nodes) at
 abbrev pub is_same_name : Expanded → Expanded → Bool
 is_same_name a b = is_named a.space a.local b
 
--- the concept's name was declared before, in another schema or at an earlier node: XML Schema 1.0, part 1, section 3.3.6
+-- the concept's name was declared before, in another schema or at an earlier node: XML Schema 1.0, part 1, section 3.15.6
 abbrev pub repeats_concept : List Schema → List Node → ℕ → Bool
 repeats_concept schemas nodes at = is_repeated is_same_name (map (λ c. c.declared.name) (concepts_in schemas)) (λ k. option_map (λ d. d.name) (declared_at nodes k)) at
 

@@ -60,9 +60,11 @@ Broken = ℕ × SchemaFault
 abbrev pub nameless_fault : ℕ → Broken
 nameless_fault at = (at, BadPrefix at)
 
+-- of an `id` that stands twice
 abbrev pub id_fault : ℕ → Broken
 id_fault at = (at, SameId at)
 
+-- of a concept that is declared twice
 abbrev pub concept_fault : ℕ → Broken
 concept_fault at = (at, SameConcept at)
 

@@ -57,6 +57,7 @@ abbrev pub behind_mark : Option (ℕ × List ℕ) → List ℕ → List ℕ
 behind_mark None text = text
 behind_mark (Some x) text = if x.0 == 0xFEFF then x.1 else text
 
+-- a text without the byte order mark at its start
 abbrev pub without_mark : List ℕ → List ℕ
 without_mark text = behind_mark (one text) text
 

@@ -103,6 +103,7 @@ nodes_from before (Start name pairs ∷ after) = node_at before (tag_of name pai
 nodes_from before (Empty name pairs ∷ after) = node_at before (tag_of name pairs) 0 [] ∷ nodes_from (Empty name pairs ∷ before) after
 nodes_from before (item ∷ after) = nodes_from (item ∷ before) after
 
+-- the nodes of a document, by its items
 abbrev pub nodes_of : List Meaning → List Node
 nodes_of items = nodes_from [] items
 
@@ -113,6 +114,7 @@ abbrev pub is_outside : List Open → Bool
 is_outside [] = true
 is_outside (o ∷ os) = false
 
+-- two written names are the same: prefix and local part
 abbrev pub same_name : Name → Name → Bool
 same_name a b = bytes_eq a.prefix b.prefix && bytes_eq a.local b.local
 

@@ -16,10 +16,12 @@ unfoldable pub followed_by : {A B : Type 0} → Front A → (A → Front B) → 
 followed_by p q text = go_on (p text) q
 
 infixl 10 ◌>>=◌
+-- `followed_by` as an operator, for `do`
 abbrev pub ◌>>=◌ : {A B : Type 0} → Front A → (A → Front B) → Front B
 p >>= q = followed_by p q
 
 infixl 10 ◌>>◌
+-- the same where the second reader asks for nothing of the first
 abbrev pub ◌>>◌ : {A B : Type 0} → Front A → Front B → Front B
 p >> q = followed_by p (λ _. q)
 

@@ -26,6 +26,7 @@ pub data Meaning : Type 0 where
   Letter : ℕ → Meaning
   Reference : ℕ → Meaning
 
+-- nothing stands here
 abbrev pub is_nil : List ℕ → Bool
 is_nil [] = true
 is_nil (c ∷ cs) = false
@@ -49,9 +50,11 @@ spells_in_any_case text word = spells (map to_ascii_lowercase text) word
 unfoldable pub plain_name : Front (List ℕ)
 plain_name = by_next (λ c. if is_name_start c then run is_name_char else refuse)
 
+-- a name that has no prefix
 abbrev pub unprefixed : List ℕ → Name
 unprefixed local = record { prefix = []; local = local }
 
+-- a name with a prefix
 abbrev pub prefixed : List ℕ → List ℕ → Name
 prefixed prefix local = record { prefix = prefix; local = local }
 

@@ -21,6 +21,7 @@ lent text = chars text.now
 abbrev pub at_front : {A B : Type 0} → (A → B) → A × Bor (List ℕ) → B × List ℕ
 at_front view x = (view x.0, lent x.1)
 
+-- the name that a borrowed name stands for
 abbrev pub name_view : QualifiedName → Name
 name_view name = record { prefix = lent name.prefix; local = lent name.local }
 
@@ -28,6 +29,7 @@ name_view name = record { prefix = lent name.prefix; local = lent name.local }
 abbrev pub value_at : ℕ → List ℕ → List ℕ
 value_at mark text = option_map_or (λ x. x.0) (value_until mark text) []
 
+-- the value that a borrowed one stands for, with its references replaced
 abbrev pub value_view : WrittenValue → List ℕ
 value_view value = value_at value.mark (lent value.text)
 
@@ -35,6 +37,7 @@ value_view value = value_at value.mark (lent value.text)
 abbrev pub IsReadable : WrittenValue → Type 0
 IsReadable value = IsSome (value_until value.mark (lent value.text))
 
+-- the attribute that a borrowed one stands for
 abbrev pub attribute_view : WrittenAttribute → Pair
 attribute_view attribute = record { name = name_view attribute.name; value = value_view attribute.value }
 
@@ -42,6 +45,7 @@ attribute_view attribute = record { name = name_view attribute.name; value = val
 abbrev pub attributes_at : List ℕ → List Pair
 attributes_at text = option_map_or (λ x. x.0.0) (tag_rest text) []
 
+-- the part of a tag that a borrowed one stands for: an attribute, or the end of the tag
 abbrev pub tag_part_view : TagPart → Turn Pair Bool
 tag_part_view (parts.Attribute attribute) = More (attribute_view attribute)
 tag_part_view (parts.End is_empty) = Last is_empty
@@ -63,6 +67,7 @@ IsReadableItem (items.Section text) = Unit {0}
 IsReadableItem (items.Letter c) = Unit {0}
 IsReadableItem (items.Reference c) = Unit {0}
 
+-- the item that a borrowed one stands for
 abbrev pub item_view : Item → Meaning
 item_view items.Declaration = Declaration
 item_view (items.Start tag) = Start (name_view tag.name) (attributes_at (lent tag.attributes))

@@ -1,4 +1,4 @@
-//! The items of which an XML document is made.
+//! XML documents: the items of which one is made, and its tree with expanded names.
 #![tactic(auto)]
 
 mod attributes;

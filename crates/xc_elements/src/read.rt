@@ -12,8 +12,9 @@ use std::alloc::Global;
 
 /// The tree of a document's elements, or its first fault.
 ///
-/// A document is UTF-8, with or without a byte order mark, of fewer than 2^32 bytes. It is well-formed by XML 1.0 and
-/// Namespaces in XML 1.0, has no document type, and at most 127 elements inside one another.
+/// A document is UTF-8, with or without a byte order mark, of fewer than 2^32 bytes. It has no document type, and at
+/// most 127 elements inside one another. Its tags nest and its prefixes are declared as XML 1.0 and Namespaces in XML
+/// 1.0 have it. That `]]>` does not stand in a text, and that a declaration has a `version`, is not asked.
 pub fn read_tree(alloc: Global, bytes: &[u8]) -> Result<Tree, TreeFault>
     requires { length bytes.now < 2 ^ 32 }
     ensures tree { IfOk result (λ tree. IsTreeOf bytes.now tree) }

@@ -8,9 +8,11 @@ use Rattle.xc_report.specs.declared.reports.ReportFault.{ReportFault}
 use Rattle.xc_report.specs.declared.stated.StatedFact.{StatedFact}
 
 module _ (f : ℕ → ℕ) where
+  -- a name under its other number
   abbrev pub renamed_id : NameId → NameId
   renamed_id id = record { 0 = f id.0 }
 
+  -- and a fact that names it
   abbrev pub renamed_stated : StatedFact → StatedFact
   renamed_stated s = record { id = s.id; concept = renamed_id s.concept; parts = s.parts; value = s.value; decimals = s.decimals }
 

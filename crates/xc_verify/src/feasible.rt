@@ -1,5 +1,5 @@
 // How values are judged.
-ghost use Rattle.std.specs.Prelude.{◌≡◌, ◌<◌, All, length};
+ghost use Rattle.std.specs.Prelude.{◌≡◌, ◌<◌, ◌≤◌, All, length};
 ghost use Rattle.xc_system.specs.Systems.{IsSystem, equation_at, range_at};
 ghost use Rattle.xc_verify.specs.Feasible.{AreValuesMet, IsMetAtPoint, IsMetInside, equation_terms};
 ghost use Rattle.xc_verify.specs.Objections.{IsFirstBelow, IsMetIn, IsNothing};
@@ -103,8 +103,20 @@ fn unmet(system: &System, number: u32, values: &[Frac]) -> Option<Objection>
     ensures { IsMetIn (Binding number) IsNothing
         (equation_terms values.now (equation_at system.now.equations number).entries) result }
 {
-    let entries = system.equations()[number as usize].entries.as_slice();
-    unless_nothing(What::Binding(number), sum_of(entries, values))
+    unless_nothing(What::Binding(number), equation(system, number, values))
+}
+
+/// The sum of an equation over these values: for each entry in order the product of weight and value is added; or the
+/// first operation that passes 128 bits. There is a value for each point.
+pub fn equation(system: &System, number: u32, values: &[Frac]) -> Result<Frac, Wide>
+    requires number { number < length system.now.equations }
+    requires values { system.now.points ≤ length values.now }
+    ensures { IsSumOf (equation_terms values.now (equation_at system.now.equations number).entries) result }
+{
+    sum_of(
+        system.equations()[number as usize].entries.as_slice(),
+        values,
+    )
 }
 
 // The sum over the entries of weight times value.

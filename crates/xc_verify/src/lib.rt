@@ -11,6 +11,7 @@ mod scratch;
 mod sums;
 mod types;
 
+pub use feasible::equation;
 pub use infeasible::constant;
 pub use judging::verify;
 pub use types::{Judgement, Objection, What};

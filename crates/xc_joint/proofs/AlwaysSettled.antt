@@ -1,17 +1,16 @@
 -- A system of narrow forests is always settled.
-use Rattle.std.proofs.Common.{◌≡◌, ◌<◌, ℕ, List, [], length, map, get_or, Option, Some, None, refl, sym, ap, subst, ◌∙◌, arith}
+use Rattle.std.proofs.Common.{◌≡◌, ◌<◌, ℕ, List, [], length, map, get_or, Option, Some, None, refl, sym, subst}
 use Rattle.std.proofs.lemmas.Bool.{false≢true}
 use Rattle.std.proofs.lemmas.List.{length-map}
 use Rattle.std.proofs.lemmas.Option.{slice_get_within, slice_get-get_or}
 use Rattle.std.specs.Prelude.{IsTrue, IsSome, All, is_none, slice_get}
 use Rattle.xc_interval.specs.declared.interval.Interval.{Interval}
 use Rattle.xc_joint.proofs.Placed.{owner}
-use Rattle.xc_joint.specs.Answers.{ArePartsOf, IsFirstOther, IsOther}
+use Rattle.xc_joint.specs.Answers.{ArePartsOf}
 use Rattle.xc_joint.specs.Causes.{IsCause}
-use Rattle.xc_joint.specs.Kinds.{Answered, IsOutcome, Outcome, Unsettled}
 use Rattle.xc_joint.specs.Settling.{HasNarrowForests, NarrowForestsAreSettled}
 use Rattle.xc_joint.specs.declared.types.Cause.{Cause}
-use Rattle.xc_joint.specs.declared.types.Cause.TheVariants.{Fact, Ends}
+use Rattle.xc_joint.specs.declared.types.Cause.TheVariants.{Fact, Ends, Corner}
 use Rattle.xc_joint.specs.declared.types.Joint.TheVariants.{Settled, TooWide}
 use Rattle.xc_joint.specs.declared.types.Part.{Part}
 use Rattle.xc_joint.specs.declared.types.Part.TheVariants.{Wide as Caused}
@@ -46,9 +45,7 @@ module _ (s : Constraints) (c : Component) (component : IsComponent s c) (narrow
   no_cause : (cause : Cause) → IsCause s c cause → ⊥
   no_cause (Ends low high w) h = narrow.ends c component low high w h
   no_cause (Fact k) h = not_wide (narrow.forest c component h.none_empty) k h.wide.there h.wide.own h.wide.wide
-
-  no_other : IsOther s c → ⊥
-  no_other other = other.no_forest (narrow.forest c component other.none_empty)
+  no_cause (Corner lists w) h = h.other.no_forest (narrow.forest c component h.other.none_empty)
 
 no_parts : (s : Constraints) (parts : List Part) → HasNarrowForests s → ArePartsOf s parts → ⊥
 no_parts s parts narrow h =
@@ -64,6 +61,5 @@ no_parts s parts narrow h =
     by k cause there (c, at) = no_cause s c (h.are.each k c at) narrow cause (h.part k c (Caused cause) at there)
 
 pub narrow_forests_are_settled : NarrowForestsAreSettled
-narrow_forests_are_settled s (Answered (Settled certificate)) narrow is = (certificate, refl)
-narrow_forests_are_settled s (Answered (TooWide parts)) narrow is = absurd (no_parts s parts narrow is.1)
-narrow_forests_are_settled s (Unsettled k) narrow is = absurd (no_other s is.component (is.are.each k is.component is.there) narrow is.other)
+narrow_forests_are_settled s (Settled certificate) narrow is = (certificate, refl)
+narrow_forests_are_settled s (TooWide parts) narrow is = absurd (no_parts s parts narrow is)

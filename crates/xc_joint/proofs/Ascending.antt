@@ -13,7 +13,8 @@ use Rattle.std.specs.Ordering.{nat_cmp}
 use Rattle.std.specs.declared.cmp.Ordering.TheVariants.{Less}
 use Rattle.std.specs.Prelude.{All, sum_by, IsSome, IsSomeAnd}
 use Rattle.xc_joint.specs.Steps.Multiplied.{IsContradicted, IsMadeOf, IsListed, IsSigned, picked, is_nonzero, is_minus, is_plus, bindings_of, lows_of, highs_of}
-use Rattle.xc_joint.specs.Steps.OneForest.{AreEach, IsSign, IsSpanOf}
+use Rattle.xc_joint.specs.Lists.{AreEach}
+use Rattle.xc_joint.specs.Steps.OneForest.{IsSign, IsSpanOf}
 use Rattle.xc_joint.specs.declared.one_forest.Span.{Span}
 use Rattle.xc_joint.proofs.Cancelling.{IsPlaced}
 use Rattle.xc_joint.proofs.ForestRanges.{first_in, known_in}
@@ -87,23 +88,26 @@ twice v (x ∷ xs) zero l a b =
 twice v (x ∷ xs) (suc k) l a b = let rest = twice v xs k (omega (arith, l)) a b in omega (arith, sum_by-cons (is_this v) x xs, rest)
 
 -- an order of a list without repetition that does not fall rises strictly
-pub rises_strictly : (xs ys : List ℕ) → IsOnce xs → IsPermutation xs ys → IsSorted nat_cmp ys → IsStrictlySortedBy nat_cmp ys
-rises_strictly xs ys once moved sorted = sorted_from_strictly_increasing ys (λ k l. step k l (lt_or_le (get_or ys k 0) (get_or ys (k + 1) 0)))
+pub rises_once : (xs ys : List ℕ) → IsOnce xs → IsPermutation xs ys → ((k : ℕ) → k + 1 < length ys → get_or ys k 0 ≤ get_or ys (k + 1) 0) → IsStrictlySortedBy nat_cmp ys
+rises_once xs ys once moved most_at = sorted_from_strictly_increasing ys (λ k l. step k l (lt_or_le (get_or ys k 0) (get_or ys (k + 1) 0)))
   where
     step : (k : ℕ) → k + 1 < length ys → (get_or ys k 0 < get_or ys (k + 1) 0) ⊎ (get_or ys (k + 1) 0 ≤ get_or ys k 0) → get_or ys k 0 < get_or ys (k + 1) 0
     step k l (inl less) = less
     step k l (inr least) =
-        let most = IsNonDecreasingBy-from_sort (λ x. x) ys sorted k (k + 1) 0 (omega arith) l in
+        let most = most_at k l in
         let same : get_or ys (k + 1) 0 ≡ get_or ys k 0 = omega (arith, least, most) in
         let next : k + 1 ≡ suc k = add-one k in
         let two = twice (get_or ys k 0) ys k (omega (arith, l)) refl (subst (λ j. get_or ys j 0 ≡ get_or ys k 0) next same) in
         let one = once_at_most (get_or ys k 0) xs once in
         absurd (omega (arith, two, one, sum_by-IsPermutation (is_this (get_or ys k 0)) xs ys moved))
 
+pub rises_strictly : (xs ys : List ℕ) → IsOnce xs → IsPermutation xs ys → IsSorted nat_cmp ys → IsStrictlySortedBy nat_cmp ys
+rises_strictly xs ys once moved sorted = rises_once xs ys once moved (λ k l. IsNonDecreasingBy-from_sort (λ x. x) ys sorted k (k + 1) 0 (omega arith) l)
+
 -- ---- facts of points
 
 -- each fact is one of its point
-abbrev AreFactsOf : Constraints → (Span → ℕ) → List ℕ → List Span → Type 0
+abbrev pub AreFactsOf : Constraints → (Span → ℕ) → List ℕ → List Span → Type 0
 AreFactsOf s fact points spans = AreEach (λ q x. IsIn (fact x) (facts_of s.bounds q)) points spans
 
 module _ (s : Constraints) (placed : IsPlaced s) (test : ℤ → Bool) (fact : Span → ℕ) where
@@ -153,20 +157,20 @@ known_of s k h = by (range_at s.bounds k) h
     by (Some i) h = tt
 
 -- the facts of a component's spans are known, and of its points
-spans_known : (s : Constraints) (points : List ℕ) (spans : List Span) → AreEach (IsSpanOf s) points spans → (q : ℕ) → IsIn q points → (k : ℕ) → IsIn k (facts_of s.bounds q) → IsKnown s k
+pub spans_known : (s : Constraints) (points : List ℕ) (spans : List Span) → AreEach (IsSpanOf s) points spans → (q : ℕ) → IsIn q points → (k : ℕ) → IsIn k (facts_of s.bounds q) → IsKnown s k
 spans_known s [] [] h q i k f = absurd i
 spans_known s [] (x ∷ xs) h q i k f = absurd h
 spans_known s (p ∷ ps) [] h q i k f = absurd h
 spans_known s (p ∷ ps) (x ∷ xs) h q (inl is) k f = known_of s k (known_in s (facts_of s.bounds p) k h.0.known (subst (λ r. IsIn k (facts_of s.bounds r)) is f))
 spans_known s (p ∷ ps) (x ∷ xs) h q (inr i) k f = spans_known s ps xs h.1 q i k f
 
-low_facts : (s : Constraints) (points : List ℕ) (spans : List Span) → AreEach (IsSpanOf s) points spans → AreFactsOf s (λ x. x.low) points spans
+pub low_facts : (s : Constraints) (points : List ℕ) (spans : List Span) → AreEach (IsSpanOf s) points spans → AreFactsOf s (λ x. x.low) points spans
 low_facts s [] [] h = tt
 low_facts s [] (x ∷ xs) h = absurd h
 low_facts s (p ∷ ps) [] h = absurd h
 low_facts s (p ∷ ps) (x ∷ xs) h = (first_in _ (facts_of s.bounds p) x.low h.0.low, low_facts s ps xs h.1)
 
-high_facts : (s : Constraints) (points : List ℕ) (spans : List Span) → AreEach (IsSpanOf s) points spans → AreFactsOf s (λ x. x.high) points spans
+pub high_facts : (s : Constraints) (points : List ℕ) (spans : List Span) → AreEach (IsSpanOf s) points spans → AreFactsOf s (λ x. x.high) points spans
 high_facts s [] [] h = tt
 high_facts s [] (x ∷ xs) h = absurd h
 high_facts s (p ∷ ps) [] h = absurd h

@@ -1,5 +1,5 @@
 -- In the refutation that multipliers of the forest give no value counts.
-use Rattle.std.proofs.Common.{◌≡◌, ◌≢◌, ℕ, zero, suc, ◌+◌, ◌*◌, ◌<◌, Bool, true, false, ◌==◌, if◌then◌else◌, ℤ, pos, negsuc, neg_ℤ, ◌+ℤ◌, ◌*ℤ◌, List, [], ◌∷◌, length, map, get_or, inl, inr, refl, sym, ap, subst, ◌∙◌, arith}
+use Rattle.std.proofs.Common.{◌≡◌, ◌≢◌, ℕ, zero, suc, ◌+◌, ◌<◌, Bool, true, false, ◌==◌, if◌then◌else◌, ℤ, pos, negsuc, neg_ℤ, ◌+ℤ◌, ◌*ℤ◌, List, [], ◌∷◌, length, map, get_or, inl, inr, refl, sym, ap, subst, ◌∙◌, arith}
 use Rattle.std.proofs.lemmas.Bool.{eq-eqb, eqb-true, ne_eqb, false≢true}
 use Rattle.std.specs.List.Sorted.{IsStrictlySortedBy}
 use Rattle.std.specs.Ordering.{nat_cmp}
@@ -10,7 +10,8 @@ use Rattle.std.specs.Prelude.{sum_by}
 use Rattle.xc_forest.specs.Forests.{IsUnit, row_sum, row_at, turn, sum_below, multiplier_at, unit_at as place_unit}
 use Rattle.xc_joint.specs.Small.{closed_pairs}
 use Rattle.xc_joint.specs.Steps.Multiplied.{IsContradicted, IsMadeOf, IsListed, IsSigned, lows_of, highs_of, bindings_of}
-use Rattle.xc_joint.specs.Steps.OneForest.{AreEach, IsSign, IsSignedPlace, IsRangeOf, IsRowOf, IsSpanOf}
+use Rattle.xc_joint.specs.Lists.{AreEach}
+use Rattle.xc_joint.specs.Steps.OneForest.{IsSign, IsSignedPlace, IsRangeOf, IsRowOf, IsSpanOf}
 use Rattle.xc_joint.specs.declared.one_forest.Span.{Span}
 use Rattle.xc_joint.proofs.Each.{each_length}
 use Rattle.xc_joint.proofs.Evaluated.{difference_over, product_over}

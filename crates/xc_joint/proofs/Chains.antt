@@ -7,7 +7,8 @@ use Rattle.std.specs.Option.{option_map}
 use Rattle.std.specs.Prelude.{Ok, slice_get, sum_by, unsigned_abs}
 use Rattle.xc_forest.specs.Forests.{points_of as row_points}
 use Rattle.xc_joint.specs.Solved.{number_at, signed_number}
-use Rattle.xc_joint.specs.Steps.OneForest.{AreEach, IsSignedPlace}
+use Rattle.xc_joint.specs.Lists.{AreEach}
+use Rattle.xc_joint.specs.Steps.OneForest.{IsSignedPlace}
 use Rattle.xc_joint.proofs.Between.{same_over}
 use Rattle.xc_joint.proofs.Disjoint.{more_sum}
 use Rattle.xc_joint.proofs.PartValues.{signed_product}

@@ -1,7 +1,7 @@
 -- Lists of which what stands at one place is related.
 use Rattle.std.proofs.Common.{◌≡◌, ℕ, zero, suc, ◌+◌, ◌<◌, ◌≤◌, List, [], ◌∷◌, ◌++◌, length, get_or, drop, refl, sym, ap, subst, ◌∙◌, arith, append-nil, append_assoc}
 use Rattle.std.proofs.Math.ListN.{drop_of_length-le}
-use Rattle.xc_joint.specs.Steps.OneForest.{AreEach}
+use Rattle.xc_joint.specs.Lists.{AreEach}
 use Rattle.xc_joint.proofs.Turns.{next_of}
 
 -- what is made so far, with what is made of those that are left, is what is made of all

@@ -14,7 +14,7 @@ use Rattle.xc_joint.proofs.EmptyPoints.{ends_kept}
 use Rattle.xc_joint.proofs.Placed.{placed_in}
 use Rattle.xc_joint.specs.Causes.{IsCause, IsFirstEmpty, IsOfFirstEmpty}
 use Rattle.xc_joint.specs.declared.types.Cause.{Cause}
-use Rattle.xc_joint.specs.declared.types.Cause.TheVariants.{Fact, Ends}
+use Rattle.xc_joint.specs.declared.types.Cause.TheVariants.{Corner, Ends, Fact}
 use Rattle.xc_model.proofs.Arithmetic.{product-comm, product-one, sum-comm, sum-neg, sum-zero}
 use Rattle.xc_model.proofs.Integers.{neg-mul}
 use Rattle.xc_model.proofs.Numbers.{same-neg, same-product, same-refl, same-sum, same-sym, same-trans}
@@ -153,6 +153,7 @@ module _ (s : Constraints) (c : Component) where
   -- a component whose first empty point is refuted has no cause
   pub ends_uncaused : HasOneLowest → HasOneSum → (r : Multipliers) (low high : ℕ) (x : Ratio) → IsOfFirstEmpty s c r low high → IsSumOf (constant_terms s r) (Ok x) → (cause : Cause) → IsCause s c cause → ⊥
   ends_uncaused one sum r low high x own ok (Fact k) h = h.none_empty own.point own.first.there own.first.empty
+  ends_uncaused one sum r low high x own ok (Corner lists w) h = h.other.none_empty own.point own.first.there own.first.empty
   ends_uncaused one sum r low high x own ok (Ends l m w) h = apart (sum (constant_terms s r) (Ok x) (Err w) ok (subst (λ (q : Multipliers). IsSumOf (constant_terms s q) (Err w)) same h.passes))
     where
       apart : Ok x ≡ Err w → ⊥

@@ -10,7 +10,8 @@ use Rattle.xc_joint.proofs.Crossing.{in_middle, known_at}
 use Rattle.xc_joint.specs.Answers.{AreValuesOf}
 use Rattle.xc_joint.specs.Causes.{HasNoEmpty}
 use Rattle.xc_joint.specs.Laws.{NumbersAreValues, NumbersHaveSums}
-use Rattle.xc_joint.specs.Steps.OneForest.{AreEach, HasSome, IsBounded, IsRangeOf, IsSolved, IsSpanOf}
+use Rattle.xc_joint.specs.Lists.{AreEach}
+use Rattle.xc_joint.specs.Steps.OneForest.{HasSome, IsBounded, IsRangeOf, IsSolved, IsSpanOf}
 use Rattle.xc_joint.specs.Steps.Settling.{HaveSums}
 use Rattle.xc_joint.specs.declared.one_forest.Span.{Span}
 use Rattle.xc_joint.specs.declared.solving.Solution.TheVariants.{Numbers}

@@ -15,7 +15,8 @@ use Rattle.xc_joint.specs.Causes.{IsEmptyPoint}
 use Rattle.xc_joint.specs.PointRanges.{AreRangesOf, IsLowOf, IsHighOf}
 use Rattle.xc_joint.specs.Small.{closed_pairs, low_pair, high_pair}
 use Rattle.xc_joint.specs.Solved.{HaveNumbers}
-use Rattle.xc_joint.specs.Steps.OneForest.{AreEach, IsBounded, IsSpanOf, IsRangeOf, HasNumberIn}
+use Rattle.xc_joint.specs.Lists.{AreEach}
+use Rattle.xc_joint.specs.Steps.OneForest.{IsBounded, IsSpanOf, IsRangeOf, HasNumberIn}
 use Rattle.xc_joint.specs.declared.one_forest.Span.{Span}
 use Rattle.xc_joint.proofs.Each.{each_length}
 use Rattle.xc_lists.specs.Members.{IsIn}
@@ -109,7 +110,7 @@ closing s [] (r ∷ rs) p d h l = absurd h
 closing s (q ∷ qs) (r ∷ rs) zero d h l = record { range = r; at = refl; bounded = h.0 }
 closing s (q ∷ qs) (r ∷ rs) (suc p) d h l = closing s qs rs p d h.1 (omega (arith, l))
 
-bounded_some : EndsTell IsBelow SameNumber → (s : Constraints) (p : ℕ) (range : Interval Ratio) → IsBounded s p range → ¬ HasNoNumber (numbers_of range)
+pub bounded_some : EndsTell IsBelow SameNumber → (s : Constraints) (p : ℕ) (range : Interval Ratio) → IsBounded s p range → ¬ HasNoNumber (numbers_of range)
 bounded_some law s p range b = not_empty law (numbers_of range) b.is.some.0 (lies_between s p range b b.is.some.0 b.is.some.1)
 
 pub have_numbers : EndsTell IsBelow SameNumber → (s : Constraints) (points : List ℕ) (ranges : List (Interval Ratio)) → AreEach (IsBounded s) points ranges → HaveNumbers ranges

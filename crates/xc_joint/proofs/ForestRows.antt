@@ -6,7 +6,8 @@ use Rattle.std.specs.Prelude.{All}
 use Rattle.xc_forest.specs.Forests.{AreRows, HasNoCycle, row_at, points_of as row_points, IsNext as IsNextTo, IsThin as IsThinTo, IsPointOf}
 use Rattle.xc_lists.specs.Members.{IsIn as IsInRow, IsOnce as IsOnceIn}
 use Rattle.xc_model.proofs.Integers.{lt_or_le}
-use Rattle.xc_joint.specs.Steps.OneForest.{AreEach, IsRowOf, IsSignedPlace}
+use Rattle.xc_joint.specs.Lists.{AreEach}
+use Rattle.xc_joint.specs.Steps.OneForest.{IsRowOf, IsSignedPlace}
 use Rattle.xc_joint.proofs.Each.{each_at, each_length, other_default}
 use Rattle.xc_joint.proofs.Searched.{rises}
 use Rattle.xc_joint.proofs.Sizes.{place_of}

@@ -8,9 +8,10 @@ use Rattle.std.specs.Option.{option_map_or}
 use Rattle.std.specs.Ordering.{nat_cmp}
 use Rattle.std.specs.Prelude.{slice_get}
 use Rattle.xc_joint.proofs.OneKind.{behind, same_component, placed_at as placed_at_of}
-use Rattle.xc_joint.specs.Answers.{AreValuesOf, HasNoOther, IsFirstOther, IsOther, IsPart, IsRefuted, placed}
-use Rattle.xc_joint.specs.Steps.Settling.{AreAmong, AreFirstAmong, AreGathered, AreReady, HaveCause, HaveSums, IsReady, IsRefutedBy}
-use Rattle.xc_joint.specs.Causes.{IsCause}
+use Rattle.xc_joint.specs.Answers.{AreValuesOf, HasNoCauses, IsPart, IsRefuted, placed}
+use Rattle.xc_joint.specs.Lists.{AreAmong}
+use Rattle.xc_joint.specs.Steps.Settling.{AreFirstAmong, AreGathered, HaveCause, HaveSums, IsRefutedBy}
+use Rattle.xc_joint.specs.Causes.{HasNoCause, IsCause}
 use Rattle.xc_joint.specs.declared.types.Cause.{Cause}
 use Rattle.xc_joint.specs.declared.types.Part.{Part}
 use Rattle.xc_joint.specs.declared.types.Part.TheVariants.{Values, Wide}
@@ -204,14 +205,14 @@ module _ (links : LinksAreEquivalences) (s : Constraints) (cs : List Component) 
   abbrev AreKept : Type 0
   AreKept = (length all_now ≡ s.points) × (length parts_now ≡ n + 1) × AreGathered s cs parts_now all_now × HaveCause parts_now b_now
 
-  pub values_step : (values : List Ratio) (points : List ℕ) (lent old now : List Ratio) → AreValuesOf s c values × HaveSums s c values → points ≡ c.points → lent ≡ values → old ≡ all
+  pub values_step : (values : List Ratio) (points : List ℕ) (lent old now : List Ratio) → AreValuesOf s c values × HaveSums s c values × HasNoCause s c → points ≡ c.points → lent ≡ values → old ≡ all
       → length now ≡ length old → AreAmong points lent now → ((p : ℕ) → ¬ IsIn p points → slice_get now p ≡ slice_get old p)
       → parts_now ≡ parts ++ Values values ∷ [] → all_now ≡ now → b_now ≡ b → AreKept
   values_step values points lent old now h own vs olds long among kept more same told = (
     ap length same ∙ long ∙ ap length olds ∙ count,
     ap length more ∙ length_more parts (Values values) ∙ ap (λ (k : ℕ). k + 1) each,
     subst (λ (ps : List Part). AreGathered s cs ps all_now) (sym more) (subst (λ (xs : List Ratio). AreGathered s cs (parts ++ Values values ∷ []) xs) (sym same)
-        (gathered_more s cs are n c there parts each all now (Values values) links h.0 given_own (λ p out. kept p (λ i. out (subst (λ (ps : List ℕ). IsIn p ps) own i)) ∙ ap (λ (xs : List Ratio). slice_get xs p) olds) gathered)),
+        (gathered_more s cs are n c there parts each all now (Values values) links (h.0, h.2) given_own (λ p out. kept p (λ i. out (subst (λ (ps : List ℕ). IsIn p ps) own i)) ∙ ap (λ (xs : List Ratio). slice_get xs p) olds) gathered)),
     subst (λ (ps : List Part). HaveCause ps b_now) (sym more) (subst (λ (t : Bool). HaveCause (parts ++ Values values ∷ []) t) (sym told) (cause_kept parts values b caused)),
   )
     where
@@ -261,7 +262,7 @@ module _ (accepted : SolutionsAreAccepted) (s : Constraints) (cs : List Componen
   joins : (k p : ℕ) (c : Component) → slice_get cs k ≡ Some c → IsIn p c.points → assigned all p ≡ own k p
   joins k p c at has =
       let v = values_at k c at in
-      let are_of : AreValuesOf s c v.0 = gathered.part k c (Values v.0) at v.1 in
+      let are_of : AreValuesOf s c v.0 = (gathered.part k c (Values v.0) at v.1).0 in
       let place = in_there c.points p has in
       let x : slice_get v.0 place.0 ≡ Some (get_or v.0 place.0 zero_ratio) = slice_get-get_or v.0 place.0 zero_ratio (omega (arith, are_of.each, slice_get_within c.points place.0 p place.1)) in
       ap (λ (o : Option Ratio). option_map_or (λ value. fraction_of value) o (whole (pos 0))) ((gathered.among k c v.0 at v.1).0 place.0 p (get_or v.0 place.0 zero_ratio) place.1 x)
@@ -271,7 +272,7 @@ module _ (accepted : SolutionsAreAccepted) (s : Constraints) (cs : List Componen
   pub all_solve : JoinedSolve → IsSystem s → Solves s (assigned all)
   all_solve joined ok = joined s cs own (assigned all) ok are joins (λ k c at.
       let v = values_at k c at in
-      subst (λ (z : Assignment). SolvesPart s c z) (sym (own_is k c v.0 at v.1)) (gathered.part k c (Values v.0) at v.1).solve)
+      subst (λ (z : Assignment). SolvesPart s c z) (sym (own_is k c v.0 at v.1)) (gathered.part k c (Values v.0) at v.1).0.solve)
 
   pub all_sums : IsSystem s → (i : ℕ) → i < length s.equations → (x : Ratio) × IsSumOf (equation_terms all (equation_at s.equations i).entries) (Ok x)
   all_sums ok i h = go (equation_at s.equations i).entries refl
@@ -287,10 +288,16 @@ module _ (accepted : SolutionsAreAccepted) (s : Constraints) (cs : List Componen
           let a = gathered.among k c v.0 held.1.there v.1 in
           a.1 all count a.0 i (((are.each k c held.1.there).equations i).1 (entry.point, subst (λ (l : List Entry). IsIn entry.point (map (λ x. x.point) l)) (sym e) (inl refl), held.1.has))
 
-  pub all_answer : JoinedSolve → IsSystem s → Proves s (Feasible all) × IsJudgement s (Feasible all) Accepted
-  all_answer joined ok =
+  none_caused : LinksAreEquivalences → HasNoCauses s
+  none_caused links c is =
+      let at = placed_at_of links s cs are c is in
+      let v = values_at at.0 c at.1 in
+      (gathered.part at.0 c (Values v.0) at.1 v.1).1
+
+  pub all_answer : LinksAreEquivalences → JoinedSolve → IsSystem s → Proves s (Feasible all) × IsJudgement s (Feasible all) Accepted × HasNoCauses s
+  all_answer links joined ok =
       let solves = all_solve joined ok in
-      ((count, solves), accepted s all count solves (all_sums ok))
+      ((count, solves), accepted s all count solves (all_sums ok), none_caused links)
 
 -- ---- a refutation
 
@@ -307,32 +314,3 @@ module _ (accepted : ContradictionsAreAccepted) (s : Constraints) (cs : List Com
           go : ((p : Part) × (j < length parts) × (slice_get parts j ≡ Some p) × (get_or parts j p ≡ p)) ⊎ ((length parts ≤ j) × (slice_get parts j ≡ None)) → (part : Part) × IsPart s d part
           go (inl (p, h, here, same)) = (p, gathered.part j d p at here)
           go (inr (past, none)) = absurd (omega (arith, past, each, l))
-
--- ---- components that are not settled
-
-module _ (s : Constraints) (cs : List Component) (are : AreComponents s cs) where
-  pub first_other : (k : ℕ) (c : Component) → slice_get cs k ≡ Some c → IsOther s c → AreReady s cs k → IsFirstOther s k
-  first_other k c there other ready = record {
-    components = cs;
-    are = are;
-    component = c;
-    there = there;
-    other = other;
-    first = λ j d l at h. h.no_forest (ready j d l at h.none_empty h.none_wide);
-  }
-
-  pub none_other : LinksAreEquivalences → AreReady s cs (length cs) → HasNoOther s
-  none_other links ready ds ads k c at h =
-      let here = placed_at_of links s cs are c (ads.each k c at) in
-      h.no_forest (ready here.0 c (slice_get_within cs here.0 c here.1) here.1 h.none_empty h.none_wide)
-
-  pub ready_more : (n : ℕ) (c : Component) → slice_get cs n ≡ Some c → IsReady s c → AreReady s cs n → AreReady s cs (n + 1)
-  ready_more n c there is before k d l at = go (order k n)
-    where
-      order : (a b : ℕ) → (a < b) ⊎ ((a ≡ b) ⊎ (b < a))
-      order a b = grind arith
-
-      go : (k < n) ⊎ ((k ≡ n) ⊎ (n < k)) → IsReady s d
-      go (inl h) = before k d h at
-      go (inr (inl e)) = subst (λ (x : Component). IsReady s x) (same_Some c d (sym there ∙ ap (λ (m : ℕ). slice_get cs m) (sym e) ∙ at)) is
-      go (inr (inr h)) = absurd (omega (arith, h, l))

@@ -1,35 +1,27 @@
 -- All that can be said of a system is of one kind.
-use Rattle.std.proofs.Common.{◌≡◌, ◌<◌, ◌≤◌, ◌⊎◌, ℕ, zero, suc, List, [], ◌∷◌, length, map, get_or, Option, Some, None, inl, inr, refl, sym, ap, ap₂, subst, ◌∙◌, arith}
-use Rattle.std.proofs.lemmas.Bool.{false≢true}
+use Rattle.std.proofs.Common.{◌≡◌, ◌<◌, ◌≤◌, ◌⊎◌, ℕ, zero, suc, List, [], ◌∷◌, length, get_or, Option, Some, None, inl, inr, refl, sym, ap, ap₂, subst, ◌∙◌, arith}
 use Rattle.std.proofs.lemmas.Bool.Decides.{nat_tests}
-use Rattle.std.proofs.lemmas.List.{get_or-map, length-map}
 use Rattle.std.proofs.lemmas.Option.{same_Some, slice_get_cases, slice_get_within, slice_get-get_or}
 use Rattle.std.specs.List.{AllByRecursion}
 use Rattle.std.specs.List.Sorted.{IsStrictlySortedBy}
 use Rattle.std.specs.Option.{option_map_or}
 use Rattle.std.specs.Ordering.{nat_cmp}
-use Rattle.std.specs.Prelude.{IsSomeAnd, IfSome, IsTrue, is_none, slice_get}
+use Rattle.std.specs.Prelude.{IsSomeAnd, IfSome, slice_get}
 use Rattle.std.specs.declared.cmp.Ordering.TheVariants.{Less}
 use Rattle.xc_interval.specs.Intervals.{numbers_of, HasNumber}
-use Rattle.xc_interval.specs.Ranges.{LiesInAll}
-use Rattle.xc_interval.specs.declared.interval.Interval.{Interval}
-use Rattle.xc_joint.specs.Answers.{ArePartsOf, HasNoOther, IsFirstOther, IsPart, IsRefuted}
-use Rattle.xc_joint.specs.Causes.{IsCause}
-use Rattle.xc_joint.specs.Kinds.{HasOneKind, Answered, Unsettled, Left}
-use Rattle.xc_joint.specs.declared.types.Cause.{Cause}
-use Rattle.xc_joint.specs.declared.types.Cause.TheVariants.{Fact, Ends}
+use Rattle.xc_joint.specs.Answers.{ArePartsOf, HasNoCauses, IsPart, IsRefuted}
+use Rattle.xc_joint.specs.Kinds.{HasOneKind}
 use Rattle.xc_joint.specs.declared.types.Joint.TheVariants.{Settled, TooWide}
 use Rattle.xc_joint.specs.declared.types.Part.{Part}
 use Rattle.xc_joint.specs.declared.types.Part.TheVariants.{Values, Wide}
-use Rattle.xc_model.specs.Ratio.{Ratio}
-use Rattle.xc_lists.proofs.Members.{first_least, in_places}
+use Rattle.xc_lists.proofs.Members.{first_least}
 use Rattle.xc_system.specs.Components.{AreComponents, IsComponent, IsLinked, least_of}
 use Rattle.xc_system.specs.Kept.{Multipliers}
 use Rattle.xc_system.specs.Laws.{ExcludesPassing, ExcludesSolutions, HasWithin, LinksAreEquivalences, PartContradicts, SolvingMaySolve}
 use Rattle.xc_lists.specs.Members.{IsIn}
 use Rattle.xc_system.specs.Refutations.{AdmitsAt, IsContradictionOf}
 use Rattle.xc_system.specs.Solutions.{Assignment, Holds, Solves, SolvesPart}
-use Rattle.xc_system.specs.Systems.{Constraints, IsSystem, equation_at, facts_of, range_at}
+use Rattle.xc_system.specs.Systems.{Constraints, IsSystem, equation_at}
 use Rattle.xc_system.specs.declared.types.Bound.{Bound}
 use Rattle.xc_system.specs.declared.types.Certificate.TheVariants.{Feasible, Infeasible}
 use Rattle.xc_system.specs.declared.types.Component.{Component}
@@ -136,25 +128,6 @@ module _ (links : LinksAreEquivalences) (s : Constraints) where
       let before : slice_get ds k ≡ Some (get_or ds k c) = slice_get-get_or ds k c (omega (arith, slice_get_within ds (suc k) c there)) in
       step cs ds a b k j c (get_or ds k c) at there before (λ i here. no_later cs ds a b k i (get_or ds k c) here before)
 
-  -- the first component that is not settled is no later than another first
-  other_no_later : (j k : ℕ) → IsFirstOther s j → IsFirstOther s k → k ≤ j
-  other_no_later j k h g =
-      let at = placed_at g.components g.are h.component (h.are.each j h.component h.there) in
-      omega (arith, no_later h.components g.components h.are g.are at.0 j h.component h.there at.1, not_before at)
-    where
-      not_before : (at : (i : ℕ) × (slice_get g.components i ≡ Some h.component)) → k ≤ at.0
-      not_before at = go (order at.0 k)
-        where
-          order : (m n : ℕ) → (m < n) ⊎ (n ≤ m)
-          order m n = grind arith
-
-          go : (at.0 < k) ⊎ (k ≤ at.0) → k ≤ at.0
-          go (inl l) = absurd (g.first at.0 h.component l at.1 h.other)
-          go (inr l) = l
-
-  other_once : (j k : ℕ) → IsFirstOther s j → IsFirstOther s k → j ≡ k
-  other_once j k h g = omega (arith, other_no_later j k h g, other_no_later k j g h)
-
 -- solutions
 
 may : {X : Type 0} (P : X → Type 0) (o : Option X) → IsSomeAnd o P → IfSome o P
@@ -178,54 +151,15 @@ not_contradicted within excludes part s c r z ok ic h solves = excludes s r z ok
         let has = (ic.equations i).0 own in
         solves.met i (equation_at s.equations i) (slice_get-get_or s.equations i (record { entries = [] }) (within s.equations i has.0 has.1)) own
 
-module _ (s : Constraints) (z : Assignment) (solves : Solves s z) where
-  -- the interval of a fact has the value of its point
-  has : (k p : ℕ) → IsIn k (facts_of s.bounds p) → IsSomeAnd (range_at s.bounds k) (λ interval. HasNumber (numbers_of interval) (z p))
-  has k p listed = go (slice_get_cases s.bounds k).1
-    where
-      owner_at : (k < length (map (λ (x : Bound). x.point) s.bounds)) × (get_or (map (λ (x : Bound). x.point) s.bounds) k 0 ≡ p)
-      owner_at = in_places (map (λ x. x.point) s.bounds) p k listed
-
-      go : ((b : Bound) × (k < length s.bounds) × (slice_get s.bounds k ≡ Some b) × (get_or s.bounds k b ≡ b)) ⊎ ((length s.bounds ≤ k) × (slice_get s.bounds k ≡ None)) → IsSomeAnd (range_at s.bounds k) (λ interval. HasNumber (numbers_of interval) (z p))
-      go (inl (b, l, there, at)) =
-          let owner : b.point ≡ p = sym (get_or-map (λ (x : Bound). x.point) s.bounds k b 0 l ∙ ap (λ (x : Bound). x.point) at) ∙ owner_at.1 in
-          subst (λ (o : Option Bound). IsSomeAnd (option_map_or (λ x. x.range) o None) (λ interval. HasNumber (numbers_of interval) (z p))) (sym there)
-          (subst (λ (q : ℕ). IsSomeAnd b.range (λ interval. HasNumber (numbers_of interval) (z q))) owner (solves.admitted k b there))
-      go (inr (past, none)) = absurd (omega (arith, past, owner_at.0, length-map s.bounds (λ (x : Bound). x.point)))
-
-  lies : (p : ℕ) (ks : List ℕ) → ((k : ℕ) → IsIn k ks → IsSomeAnd (range_at s.bounds k) (λ interval. HasNumber (numbers_of interval) (z p))) → LiesInAll (map (range_at s.bounds) ks) (z p)
-  lies p [] h = tt
-  lies p (k ∷ ks) h = go (range_at s.bounds k) (h k (inl refl)) (lies p ks (λ j i. h j (inr i)))
-    where
-      go : (o : Option (Interval Ratio)) → IsSomeAnd o (λ interval. HasNumber (numbers_of interval) (z p)) → LiesInAll (map (range_at s.bounds) ks) (z p) → LiesInAll (o ∷ map (range_at s.bounds) ks) (z p)
-      go None a b = absurd a
-      go (Some i) a b = (a, b)
-
-  -- a component of a system that is solved has no cause
-  not_caused : (c : Component) (cause : Cause) → IsCause s c cause → ⊥
-  not_caused c (Ends low high w) h =
-      let first = h.own.first in
-      first.empty.none (z h.own.point) (lies h.own.point (facts_of s.bounds h.own.point) (λ k listed. has k h.own.point listed))
-  not_caused c (Fact k) h = go (slice_get_cases s.bounds k).1
-    where
-      clash : (P : Interval Ratio → Type 0) (o : Option (Interval Ratio)) → IsTrue (is_none o) → IsSomeAnd o P → ⊥
-      clash P None t a = a
-      clash P (Some i) t a = false≢true t
-
-      go : ((b : Bound) × (k < length s.bounds) × (slice_get s.bounds k ≡ Some b) × (get_or s.bounds k b ≡ b)) ⊎ ((length s.bounds ≤ k) × (slice_get s.bounds k ≡ None)) → ⊥
-      go (inl (b, l, there, at)) = clash (λ interval. HasNumber (numbers_of interval) (z b.point)) b.range
-          (subst (λ (o : Option Bound). IsTrue (is_none (option_map_or (λ x. x.range) o None))) there h.wide.wide) (solves.admitted k b there)
-      go (inr (past, none)) = omega (arith, past, h.wide.there)
-
 -- kinds
 
--- where values solve the system, no component has a cause
-solved_not_caused : (s : Constraints) (z : Assignment) (parts : List Part) → Solves s z → ArePartsOf s parts → ⊥
-solved_not_caused s z parts solves h = go (slice_get_cases h.components h.some.0).1
+-- where no component has a cause, it has no parts of which one is
+uncaused_not_parts : (s : Constraints) (parts : List Part) → HasNoCauses s → ArePartsOf s parts → ⊥
+uncaused_not_parts s parts none h = go (slice_get_cases h.components h.some.0).1
   where
     go : ((c : Component) × (h.some.0 < length h.components) × (slice_get h.components h.some.0 ≡ Some c) × (get_or h.components h.some.0 c ≡ c)) ⊎ ((length h.components ≤ h.some.0) × (slice_get h.components h.some.0 ≡ None)) → ⊥
-    go (inl (c, l, there, at)) = not_caused s z solves c h.some.1 (h.part h.some.0 c (Wide h.some.1) there h.some.2)
-    go (inr (past, none)) = omega (arith, past, h.each, slice_get_within parts h.some.0 (Wide h.some.1) h.some.2)
+    go (inl (c, l, there, at)) = none c (h.are.each h.some.0 c there) h.some.1 (h.part h.some.0 c (Wide h.some.1) there h.some.2)
+    go (inr (past, none)) = absurd (omega (arith, past, h.each, slice_get_within parts h.some.0 (Wide h.some.1) h.some.2))
 
 -- where a component is contradicted, it has no part
 refuted_not_parts : LinksAreEquivalences → HasWithin → ExcludesPassing → PartContradicts → (s : Constraints) (r : Multipliers) (parts : List Part) → IsSystem s → IsRefuted s r → ArePartsOf s parts → ⊥
@@ -235,7 +169,7 @@ refuted_not_parts links within excludes joins s r parts ok h g = go (placed_at l
     own = h.are.each h.k h.component h.there
 
     by : (part : Part) → IsPart s h.component part → ⊥
-    by (Values values) k = not_contradicted within excludes joins s h.component r _ ok own h.contradicts k.solve
+    by (Values values) k = not_contradicted within excludes joins s h.component r _ ok own h.contradicts k.0.solve
     by (Wide cause) k = h.uncaused cause k
 
     go : ((i : ℕ) × (slice_get g.components i ≡ Some h.component)) → ⊥
@@ -249,21 +183,14 @@ refuted_not_parts links within excludes joins s r parts ok h g = go (placed_at l
 solved_not_refuted : ExcludesSolutions → SolvingMaySolve → PartContradicts → (s : Constraints) (z : Assignment) (r : Multipliers) → IsSystem s → Solves s z → IsRefuted s r → ⊥
 solved_not_refuted excludes may_solve joins s z r ok solves h = excludes s r z ok (joins s h.component r ok (h.are.each h.k h.component h.there) h.contradicts) (may_solve s z solves)
 
--- where all are settled or have a cause, none is left
-none_left : (s : Constraints) (k : ℕ) → HasNoOther s → IsFirstOther s k → ⊥
-none_left s k none h = none h.components h.are k h.component h.there h.other
-
 module _ (links : LinksAreEquivalences) (within : HasWithin) (passing : ExcludesPassing) (solutions : ExcludesSolutions) (may_solve : SolvingMaySolve) (joins : PartContradicts) where
   pub one_kind : HasOneKind
-  one_kind s (Answered (Settled (Feasible v))) (Answered (Settled (Feasible w))) ok h g = refl
-  one_kind s (Answered (Settled (Feasible v))) (Answered (Settled (Infeasible r))) ok h g = absurd (solved_not_refuted solutions may_solve joins s (assigned v) r ok h.1.0.1 g.1.0)
-  one_kind s (Answered (Settled (Feasible v))) (Answered (TooWide ps)) ok h g = absurd (solved_not_caused s (assigned v) ps h.1.0.1 g.1)
-  one_kind s (Answered (Settled (Infeasible r))) (Answered (Settled (Feasible v))) ok h g = absurd (solved_not_refuted solutions may_solve joins s (assigned v) r ok g.1.0.1 h.1.0)
-  one_kind s (Answered (Settled (Infeasible r))) (Answered (Settled (Infeasible q))) ok h g = refl
-  one_kind s (Answered (Settled (Infeasible r))) (Answered (TooWide ps)) ok h g = absurd (refuted_not_parts links within passing joins s r ps ok h.1.0 g.1)
-  one_kind s (Answered (TooWide ps)) (Answered (Settled (Feasible v))) ok h g = absurd (solved_not_caused s (assigned v) ps g.1.0.1 h.1)
-  one_kind s (Answered (TooWide ps)) (Answered (Settled (Infeasible r))) ok h g = absurd (refuted_not_parts links within passing joins s r ps ok g.1.0 h.1)
-  one_kind s (Answered (TooWide ps)) (Answered (TooWide qs)) ok h g = refl
-  one_kind s (Answered joint) (Unsettled k) ok h g = absurd (none_left s k h.0 g)
-  one_kind s (Unsettled k) (Answered joint) ok h g = absurd (none_left s k g.0 h)
-  one_kind s (Unsettled j) (Unsettled k) ok h g = ap (λ (n : ℕ). Left n) (other_once links s j k h g)
+  one_kind s (Settled (Feasible v)) (Settled (Feasible w)) ok h g = refl
+  one_kind s (Settled (Feasible v)) (Settled (Infeasible r)) ok h g = absurd (solved_not_refuted solutions may_solve joins s (assigned v) r ok h.0.1 g.0)
+  one_kind s (Settled (Feasible v)) (TooWide ps) ok h g = absurd (uncaused_not_parts s ps h.2 g)
+  one_kind s (Settled (Infeasible r)) (Settled (Feasible v)) ok h g = absurd (solved_not_refuted solutions may_solve joins s (assigned v) r ok g.0.1 h.0)
+  one_kind s (Settled (Infeasible r)) (Settled (Infeasible q)) ok h g = refl
+  one_kind s (Settled (Infeasible r)) (TooWide ps) ok h g = absurd (refuted_not_parts links within passing joins s r ps ok h.0 g)
+  one_kind s (TooWide ps) (Settled (Feasible v)) ok h g = absurd (uncaused_not_parts s ps g.2 h)
+  one_kind s (TooWide ps) (Settled (Infeasible r)) ok h g = absurd (refuted_not_parts links within passing joins s r ps ok g.0 h)
+  one_kind s (TooWide ps) (TooWide qs) ok h g = refl

@@ -16,7 +16,8 @@ use Rattle.xc_interval.specs.declared.interval.Interval.{Interval}
 use Rattle.xc_joint.specs.PointRanges.{AreRangesOf}
 use Rattle.xc_joint.specs.Small.{closed_pairs}
 use Rattle.xc_joint.specs.Solved.{interval_at, number_at, NumbersSolve}
-use Rattle.xc_joint.specs.Steps.OneForest.{AreEach, AreRowsOf, IsBounded, IsRowOf, IsSignedPlace}
+use Rattle.xc_joint.specs.Lists.{AreEach}
+use Rattle.xc_joint.specs.Steps.OneForest.{AreRowsOf, IsBounded, IsRowOf, IsSignedPlace}
 use Rattle.xc_joint.specs.Widths.{IsWholeOver}
 use Rattle.xc_joint.proofs.Chains.{chain}
 use Rattle.xc_joint.proofs.Disjoint.{once_below}

@@ -15,12 +15,15 @@ use Rattle.xc_interval.specs.Tightest.{IsTighterHigh, IsTighterLow}
 use Rattle.xc_interval.specs.declared.ends.End.TheVariants.{Closed}
 use Rattle.xc_interval.specs.declared.interval.Interval.{Interval}
 use Rattle.xc_joint.specs.Answers.{placed, AreValuesOf}
+use Rattle.xc_joint.specs.ComponentProblems.{IsTightestRange}
 use Rattle.xc_joint.specs.Solved.{interval_at, number_at, number_total, signed_number, NumbersSolve}
-use Rattle.xc_joint.specs.Steps.OneForest.{AreEach, IsBounded, IsRowOf, IsSign, IsSignedPlace}
+use Rattle.xc_joint.specs.Lists.{AreEach}
+use Rattle.xc_joint.specs.Steps.OneForest.{IsBounded, IsRowOf, IsSign, IsSignedPlace}
 use Rattle.xc_joint.proofs.Each.{each_at, each_length}
 use Rattle.xc_joint.proofs.Exact.{exact_whole}
 use Rattle.xc_joint.proofs.Searched.{rises}
 use Rattle.xc_joint.proofs.Sizes.{place_of}
+use Rattle.xc_joint.proofs.TightestRanges.{bounded_known, bounded_tightest, HasKnown}
 use Rattle.xc_model.specs.Fraction.{Fraction, IsBelow, SameNumber, whole, neg_of, product_of}
 use Rattle.xc_model.specs.Ratio.{Ratio, fraction_of}
 use Rattle.xc_model.proofs.Numbers.{same-sum, same-trans}
@@ -38,7 +41,7 @@ use Rattle.xc_lists.proofs.Members.{places_in}
 
 -- ---- the value of a point
 
-abbrev Rise : List ℕ → Type 0
+abbrev pub Rise : List ℕ → Type 0
 Rise xs = (i j : ℕ) → i < j → j < length xs → get_or xs i 0 < get_or xs j 0
 
 pub placed_at : (points : List ℕ) (xs : List Ratio) (j : ℕ) → Rise points → j < length points → length xs ≡ length points → placed points xs (get_or points j 0) ≡ number_at xs j
@@ -126,31 +129,32 @@ known_has bounds (f ∷ fs) k x known (inr listed) past before = known_has bound
     rest (Some i) a = a
 
 -- a number between the tightest ends lies in the interval of each fact
-pub all_have : LowsCompare → HighsCompare → (s : Constraints) (p : ℕ) (range : Interval Ratio) → IsBounded s p range → (x : Fraction) → HasNumber (numbers_of range) x → (k : ℕ) → IsIn k (facts_of s.bounds p) → IsSomeAnd (range_at s.bounds k) (λ interval. HasNumber (numbers_of interval) x)
-all_have lows highs s p range b x lies k listed =
+pub all_have : LowsCompare → HighsCompare → (s : Constraints) (p : ℕ) (range : Interval Ratio) → AllKnown (map (range_at s.bounds) (facts_of s.bounds p)) → IsTightestRange s p range → (x : Fraction) → HasNumber (numbers_of range) x → (k : ℕ) → IsIn k (facts_of s.bounds p) → IsSomeAnd (range_at s.bounds k) (λ interval. HasNumber (numbers_of interval) x)
+all_have lows highs s p range known t x lies k listed =
     let facts = facts_of s.bounds p in
-    let low_is : low_end s.bounds b.span.low ≡ end_at (λ y. fraction_of y) range.low = ap (λ o. option_map_or (λ interval. end_at (λ y. fraction_of y) interval.low) o (Closed (whole (pos 0)))) b.of.low_known ∙ ap (λ e. end_at (λ y. fraction_of y) e) (sym b.of.low_is) in
-    let high_is : high_end s.bounds b.span.high ≡ end_at (λ y. fraction_of y) range.high = ap (λ o. option_map_or (λ interval. end_at (λ y. fraction_of y) interval.high) o (Closed (whole (pos 0)))) b.of.high_known ∙ ap (λ e. end_at (λ y. fraction_of y) e) (sym b.of.high_is) in
+    let low_is : low_end s.bounds t.low_fact ≡ end_at (λ y. fraction_of y) range.low = ap (λ o. option_map_or (λ interval. end_at (λ y. fraction_of y) interval.low) o (Closed (whole (pos 0)))) t.low_known ∙ ap (λ e. end_at (λ y. fraction_of y) e) (sym t.low_is) in
+    let high_is : high_end s.bounds t.high_fact ≡ end_at (λ y. fraction_of y) range.high = ap (λ o. option_map_or (λ interval. end_at (λ y. fraction_of y) interval.high) o (Closed (whole (pos 0)))) t.high_known ∙ ap (λ e. end_at (λ y. fraction_of y) e) (sym t.high_is) in
     let past = subst (λ e. IsPast IsBelow SameNumber e x) (sym low_is) lies.low in
     let before = subst (λ e. IsBefore IsBelow SameNumber e x) (sym high_is) lies.high in
-    known_has s.bounds facts k x b.is.known listed
-    (past_all s.bounds facts x lows b.span.low b.is.low past k listed)
-    (before_all s.bounds facts x highs b.span.high b.is.high before k listed)
+    known_has s.bounds facts k x known listed
+    (past_all s.bounds facts x lows t.low_fact t.low_first past k listed)
+    (before_all s.bounds facts x highs t.high_fact t.high_first before k listed)
 
 -- ---- the component
 
-bounded_at : (s : Constraints) (points : List ℕ) (ranges : List (Interval Ratio)) (j : ℕ) → AreEach (IsBounded s) points ranges → j < length points → (range : Interval Ratio) × IsBounded s (get_or points j 0) range × (interval_at ranges j ≡ numbers_of range)
-bounded_at s [] ranges j h l = absurd (omega (arith, l))
-bounded_at s (q ∷ qs) [] j h l = absurd h
-bounded_at s (q ∷ qs) (r ∷ rs) zero h l = (r, h.0, refl)
-bounded_at s (q ∷ qs) (r ∷ rs) (suc j) h l = bounded_at s qs rs j h.1 (omega (arith, l))
+tightest_at : (s : Constraints) (points : List ℕ) (ranges : List (Interval Ratio)) (j : ℕ) → AreEach (IsTightestRange s) points ranges → j < length points → (range : Interval Ratio) × IsTightestRange s (get_or points j 0) range × (interval_at ranges j ≡ numbers_of range)
+tightest_at s [] ranges j h l = absurd (omega (arith, l))
+tightest_at s (q ∷ qs) [] j h l = absurd h
+tightest_at s (q ∷ qs) (r ∷ rs) zero h l = (r, h.0, refl)
+tightest_at s (q ∷ qs) (r ∷ rs) (suc j) h l = tightest_at s qs rs j h.1 (omega (arith, l))
 
-module _ (lows : LowsCompare) (highs : HighsCompare) (s : Constraints) (c : Component) (is : IsComponent s c) (ranges : List (Interval Ratio)) (rows : List (List (ℕ × Bool))) (bounded : AreEach (IsBounded s) c.points ranges) (rows_are : AreEach (IsRowOf s c.points) c.equations rows) (xs : List Ratio) (solve : NumbersSolve rows ranges xs) where
-  up : Rise c.points
+-- numbers that lie in the ranges of its points and meet its equations are values of a component
+module _ (lows : LowsCompare) (highs : HighsCompare) (s : Constraints) (c : Component) (is : IsComponent s c) (known : HasKnown s c.points) (ranges : List (Interval Ratio)) (tight : AreEach (IsTightestRange s) c.points ranges) (xs : List Ratio) (each : length xs ≡ length ranges) (within : (p : ℕ) → p < length ranges → HasNumber (interval_at ranges p) (number_at xs p)) where
+  pub up : Rise c.points
   up = rises c.points is.points_ascend
 
-  long : length xs ≡ length c.points
-  long = solve.each ∙ each_length (IsBounded s) c.points ranges bounded
+  pub long : length xs ≡ length c.points
+  long = each ∙ each_length (IsTightestRange s) c.points ranges tight
 
   admitted : (k : ℕ) (bound : Bound) → slice_get s.bounds k ≡ Some bound → IsIn bound.point c.points → Admits bound (placed c.points xs bound.point)
   admitted k bound there inside = go (slice_get_cases s.bounds k).1
@@ -160,35 +164,49 @@ module _ (lows : LowsCompare) (highs : HighsCompare) (s : Constraints) (c : Comp
           let same : b ≡ bound = let e : Some b ≡ Some bound = sym found ∙ there in cc in
           let place = place_of bound.point c.points inside in
           let j = place.0 in
-          let r = bounded_at s c.points ranges j bounded place.1 in
-          let lies : HasNumber (numbers_of r.0) (number_at xs j) = subst (λ i. HasNumber i (number_at xs j)) r.2 (solve.within j (let many = each_length (IsBounded s) c.points ranges bounded in let m = place.1 in omega (arith, many, m))) in
+          let r = tightest_at s c.points ranges j tight place.1 in
+          let lies : HasNumber (numbers_of r.0) (number_at xs j) = subst (λ i. HasNumber i (number_at xs j)) r.2 (within j (let many = each_length (IsTightestRange s) c.points ranges tight in let m = place.1 in omega (arith, many, m))) in
           let owner : get_or (map (λ (x : Bound). x.point) s.bounds) k 0 ≡ get_or c.points j 0 = get_or-map (λ (x : Bound). x.point) s.bounds k b 0 l ∙ ap (λ (x : Bound). x.point) at ∙ ap (λ (x : Bound). x.point) same ∙ sym place.2 in
           let listed : IsIn k (facts_of s.bounds (get_or c.points j 0)) = places_in (map (λ x. x.point) s.bounds) (get_or c.points j 0) k (let e = length-map s.bounds (λ (x : Bound). x.point) in omega (arith, e, l)) owner in
-          let has = all_have lows highs s (get_or c.points j 0) r.0 r.1 (number_at xs j) lies k listed in
+          let has = all_have lows highs s (get_or c.points j 0) r.0 (subst (λ (q : ℕ). AllKnown (map (range_at s.bounds) (facts_of s.bounds q))) (sym place.2) (known bound.point inside)) r.1 (number_at xs j) lies k listed in
           let value : placed c.points xs bound.point ≡ number_at xs j = ap (placed c.points xs) (sym place.2) ∙ placed_at c.points xs j up place.1 long in
           let range : range_at s.bounds k ≡ bound.range = ap (λ (o : Option Bound). option_map_or (λ x. x.range) o None) there in
           subst (λ y. IsSomeAnd bound.range (λ interval. HasNumber (numbers_of interval) y)) (sym value) (subst (λ o. IsSomeAnd o (λ interval. HasNumber (numbers_of interval) (number_at xs j))) range has)
       go (inr (past, none)) = absurd (let e : None ≡ Some bound = sym none ∙ there in cc)
 
-  met : (i : ℕ) (equation : Equation) → slice_get s.equations i ≡ Some equation → IsIn i c.equations → Holds equation (placed c.points xs)
-  met i equation there inside = go (slice_get_cases s.equations i).1
-    where
-      go : ((b : Equation) × (i < length s.equations) × (slice_get s.equations i ≡ Some b) × (get_or s.equations i b ≡ b)) ⊎ ((length s.equations ≤ i) × (slice_get s.equations i ≡ None)) → Holds equation (placed c.points xs)
-      go (inl (b, l, found, at)) =
-          let place = place_of i c.equations inside in
-          let j = place.0 in
-          let m = place.1 in
-          let many = each_length (IsRowOf s c.points) c.equations rows rows_are in
-          let row = each_at (IsRowOf s c.points) c.equations rows j 0 [] rows_are place.1 in
-          let here : AreEach (IsSignedPlace c.points) (equation_at s.equations i).entries (row_at rows j) = subst (λ (n : ℕ). AreEach (IsSignedPlace c.points) (equation_at s.equations n).entries (row_at rows j)) place.2 row in
-          let zero = same-trans _ _ _ (weighed_row c.points xs up long (equation_at s.equations i).entries (row_at rows j) here) (solve.met j (omega (arith, many, m))) in
-          let is_zero : IsZero (weighed (equation_at s.equations i).entries (placed c.points xs)) = let k = zero.cross in omega (arith, ints, k) in
-          let known : equation_at s.equations i ≡ equation = equal i l there in
-          subst (λ (e : Equation). IsZero (weighed e.entries (placed c.points xs))) known is_zero
-        where
-          equal : (i : ℕ) → i < length s.equations → slice_get s.equations i ≡ Some equation → equation_at s.equations i ≡ equation
-          equal i l there = let e : Some (equation_at s.equations i) ≡ Some equation = sym (slice_get-get_or s.equations i (record { entries = [] }) l) ∙ there in cc
-      go (inr (past, none)) = absurd (let e : None ≡ Some equation = sym none ∙ there in cc)
+  module _ (zero_at : (j : ℕ) → j < length c.equations → IsZero (weighed (equation_at s.equations (get_or c.equations j 0)).entries (placed c.points xs))) where
+    met : (i : ℕ) (equation : Equation) → slice_get s.equations i ≡ Some equation → IsIn i c.equations → Holds equation (placed c.points xs)
+    met i equation there inside = go (slice_get_cases s.equations i).1
+      where
+        equal : i < length s.equations → equation_at s.equations i ≡ equation
+        equal l = let e : Some (equation_at s.equations i) ≡ Some equation = sym (slice_get-get_or s.equations i (record { entries = [] }) l) ∙ there in cc
+
+        go : ((b : Equation) × (i < length s.equations) × (slice_get s.equations i ≡ Some b) × (get_or s.equations i b ≡ b)) ⊎ ((length s.equations ≤ i) × (slice_get s.equations i ≡ None)) → Holds equation (placed c.points xs)
+        go (inl (b, l, found, at)) =
+            let place = place_of i c.equations inside in
+            let zero = subst (λ (n : ℕ). IsZero (weighed (equation_at s.equations n).entries (placed c.points xs))) place.2 (zero_at place.0 place.1) in
+            subst (λ (e : Equation). IsZero (weighed e.entries (placed c.points xs))) (equal l) zero
+        go (inr (past, none)) = absurd (let e : None ≡ Some equation = sym none ∙ there in cc)
+
+    pub values_of : AreValuesOf s c xs
+    values_of = record { each = long; solve = record { admitted = admitted; met = met } }
+
+module _ (lows : LowsCompare) (highs : HighsCompare) (s : Constraints) (c : Component) (is : IsComponent s c) (ranges : List (Interval Ratio)) (rows : List (List (ℕ × Bool))) (bounded : AreEach (IsBounded s) c.points ranges) (rows_are : AreEach (IsRowOf s c.points) c.equations rows) (xs : List Ratio) (solve : NumbersSolve rows ranges xs) where
+  known : HasKnown s c.points
+  known = bounded_known s c.points ranges bounded
+
+  tight : AreEach (IsTightestRange s) c.points ranges
+  tight = bounded_tightest s c.points ranges bounded
 
   pub are_values : AreValuesOf s c xs
-  are_values = record { each = long; solve = record { admitted = admitted; met = met } }
+  are_values = values_of lows highs s c is known ranges tight xs solve.each solve.within zero_at
+    where
+      zero_at : (j : ℕ) → j < length c.equations → IsZero (weighed (equation_at s.equations (get_or c.equations j 0)).entries (placed c.points xs))
+      zero_at j m =
+          let many = each_length (IsRowOf s c.points) c.equations rows rows_are in
+          let row : AreEach (IsSignedPlace c.points) (equation_at s.equations (get_or c.equations j 0)).entries (row_at rows j) = each_at (IsRowOf s c.points) c.equations rows j 0 [] rows_are m in
+          let points_up = up lows highs s c is known ranges tight xs solve.each solve.within in
+          let size = long lows highs s c is known ranges tight xs solve.each solve.within in
+          let zero = same-trans _ _ _ (weighed_row c.points xs points_up size (equation_at s.equations (get_or c.equations j 0)).entries (row_at rows j) row) (solve.met j (omega (arith, many, m))) in
+          let k = zero.cross in
+          omega (arith, ints, k)

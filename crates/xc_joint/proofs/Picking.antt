@@ -1,6 +1,5 @@
 -- What is made of those whose multiplier passes a test, one after another.
-use Rattle.std.proofs.Common.{◌≡◌, ℕ, suc, ◌+◌, ◌<◌, Bool, true, false, ℤ, pos, List, [], ◌∷◌, ◌++◌, length, get_or, drop, if◌then◌else◌, refl, sym, ap, ap₂, subst, ◌∙◌, arith, append_assoc, append-nil}
-use Rattle.std.proofs.Math.ListN.{drop_of_length-le}
+use Rattle.std.proofs.Common.{◌≡◌, ℕ, ◌+◌, ◌<◌, Bool, true, false, ℤ, List, [], ◌∷◌, ◌++◌, length, get_or, drop, if◌then◌else◌, sym, ap, ap₂, ◌∙◌, arith, append_assoc}
 use Rattle.xc_joint.specs.Steps.Multiplied.{picked}
 use Rattle.xc_joint.proofs.Each.{other_default}
 use Rattle.xc_joint.proofs.Turns.{next_of}

@@ -1,5 +1,5 @@
 -- The constant of the refutation of a narrow forest falls short of 0.
-use Rattle.std.proofs.Common.{◌≡◌, ℕ, zero, suc, ◌+◌, ◌-◌, ◌*◌, ◌/◌, ◌<◌, ◌≤◌, ◌||◌, ◌⊎◌, Bool, true, false, Option, Some, None, List, [], ◌∷◌, length, map, get_or, ℤ, pos, negsuc, neg_ℤ, ◌+ℤ◌, ◌-ℤ◌, ◌*ℤ◌, inl, inr, refl, sym, ap, subst, ◌∙◌, arith}
+use Rattle.std.proofs.Common.{◌≡◌, ℕ, zero, suc, ◌+◌, ◌*◌, ◌/◌, ◌<◌, ◌≤◌, ◌||◌, ◌⊎◌, Bool, true, false, Option, Some, None, List, [], ◌∷◌, length, map, get_or, ℤ, pos, negsuc, neg_ℤ, ◌+ℤ◌, ◌-ℤ◌, ◌*ℤ◌, inl, inr, refl, sym, ap, subst, ◌∙◌, arith}
 use Rattle.std.specs.List.{list_any}
 use Rattle.std.specs.List.Sorted.{IsPermutation}
 use Rattle.std.specs.Option.{option_map_or}
@@ -18,7 +18,8 @@ use Rattle.xc_interval.specs.Ends.{is_open, value_of}
 use Rattle.xc_interval.specs.declared.interval.Interval.{Interval}
 use Rattle.xc_joint.specs.Small.{closed_pairs, low_pair, high_pair}
 use Rattle.xc_joint.specs.Steps.Multiplied.{highs_of, lows_of, IsContradicted, IsListed, IsMadeOf}
-use Rattle.xc_joint.specs.Steps.OneForest.{AreEach, IsRangeOf}
+use Rattle.xc_joint.specs.Lists.{AreEach}
+use Rattle.xc_joint.specs.Steps.OneForest.{IsRangeOf}
 use Rattle.xc_joint.specs.declared.one_forest.Span.{Span}
 use Rattle.xc_joint.proofs.Between.{same_over}
 use Rattle.xc_joint.proofs.Disjoint.{more_sum}

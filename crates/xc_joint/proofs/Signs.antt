@@ -1,5 +1,5 @@
 -- Numbers that are 0, 1 or -1.
-use Rattle.std.proofs.Common.{◌≡◌, ℕ, ◌<◌, ◌≤◌, ◌*◌, ℤ, pos, ◌*ℤ◌, ◌<ℤ◌, negsuc, refl, sym, ap, subst, ◌∙◌, arith}
+use Rattle.std.proofs.Common.{◌≡◌, ℕ, ◌<◌, ◌*◌, ℤ, pos, ◌*ℤ◌, negsuc, sym, ap, subst, ◌∙◌, arith}
 use Rattle.std.specs.Prelude.{unsigned_abs}
 use Rattle.std.proofs.Props.{props}
 use Rattle.std.proofs.lemmas.Int.{ints, unsigned_abs-mul}
@@ -7,7 +7,7 @@ use Rattle.std.proofs.lemmas.Nat.Gcd.{dvd_refl}
 use Rattle.xc_model.proofs.Integers.{pos-unsigned_abs}
 use Prim.Native.Nat.{◌∣◌}
 use native.Mathlib.Nat.{dvd-mul_left}
-use Rattle.xc_model.specs.Fraction.{Fraction, IsNumberOver, over, whole}
+use Rattle.xc_model.specs.Fraction.{Fraction, IsNumberOver, whole}
 use Rattle.xc_model.proofs.NumbersOver.{over_number}
 use Rattle.xc_model.specs.Ratio.{Ratio, IsOver, fraction_of}
 

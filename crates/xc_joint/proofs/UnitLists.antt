@@ -6,7 +6,8 @@ use Rattle.std.specs.List.Sorted.{IsPermutation, IsSorted}
 use Rattle.std.specs.Ordering.{nat_cmp}
 use Rattle.xc_forest.specs.Laws.{SumsAreOver}
 use Rattle.xc_joint.specs.Steps.Multiplied.{IsContradicted, IsMadeOf, IsListed, IsSigned, bindings_of, lows_of, highs_of}
-use Rattle.xc_joint.specs.Steps.OneForest.{AreEach, IsSign}
+use Rattle.xc_joint.specs.Lists.{AreEach}
+use Rattle.xc_joint.specs.Steps.OneForest.{IsSign}
 use Rattle.xc_joint.specs.Steps.UnitSums.{HasUnits}
 use Rattle.xc_joint.specs.declared.one_forest.Span.{Span}
 use Rattle.xc_joint.proofs.Ascending.{are_kept, bindings_own, lows_own, highs_own}

@@ -1,8 +1,6 @@
 -- The answer to the joint question.
-use Rattle.std.specs.Prelude.{◌≡◌, ℕ, ◌<◌, ◌==◌, pos, List, [], ◌∷◌, Some, Result, Ok, Err, length, slice_get, if◌then◌else◌}
-use Rattle.xc_joint.specs.Causes.{HasNoEmpty, HasNoWide, IsCause, IsFirstEmpty, IsOfFirstEmpty}
-use Rattle.xc_joint.specs.declared.fault.SettleFault.{SettleFault}
-use Rattle.xc_joint.specs.declared.fault.SettleFault.TheVariants.{Memory, NotForest}
+use Rattle.std.specs.Prelude.{◌≡◌, ℕ, ◌<◌, ◌==◌, pos, List, [], ◌∷◌, Some, length, slice_get, if◌then◌else◌}
+use Rattle.xc_joint.specs.Causes.{HasNoCause, IsCause, IsFirstEmpty, IsOfFirstEmpty}
 use Rattle.xc_joint.specs.declared.types.Cause.{Cause}
 use Rattle.xc_joint.specs.declared.types.Joint.{Joint}
 use Rattle.xc_joint.specs.declared.types.Joint.TheVariants.{Settled, TooWide}
@@ -10,8 +8,7 @@ use Rattle.xc_joint.specs.declared.types.Part.{Part}
 use Rattle.xc_joint.specs.declared.types.Part.TheVariants.{Values, Wide}
 use Rattle.xc_model.specs.Fraction.{whole}
 use Rattle.xc_model.specs.Ratio.{Ratio, fraction_of}
-use Rattle.xc_system.specs.Components.{AreComponents}
-use Rattle.xc_system.specs.Forests.{IsNarrowForest}
+use Rattle.xc_system.specs.Components.{AreComponents, IsComponent}
 use Rattle.xc_system.specs.Kept.{Multipliers}
 use Rattle.xc_system.specs.Refutations.{IsContradictionOf}
 use Rattle.xc_system.specs.Solutions.{Assignment, SolvesPart}
@@ -34,9 +31,9 @@ pub record AreValuesOf (s : Constraints) (c : Component) (values : List Ratio) :
   pub each : length values ≡ length c.points
   pub solve : SolvesPart s c (placed c.points values)
 
--- what is found of a component: values, or why it has no answer
+-- what is found of a component: values where it has no cause, or why it has no answer
 abbrev pub IsPart : Constraints → Component → Part → Type 0
-IsPart s c (Values values) = AreValuesOf s c values
+IsPart s c (Values values) = AreValuesOf s c values × HasNoCause s c
 IsPart s c (Wide cause) = IsCause s c cause
 
 -- ---- answers
@@ -50,7 +47,7 @@ pub record IsRefuted (s : Constraints) (r : Multipliers) : Type 0 where
   pub component : Component
   pub there : slice_get components k ≡ Some component
   pub contradicts : IsContradictionOf s component r
-  pub uncaused : (cause : Cause) → ¬ IsCause s component cause
+  pub uncaused : HasNoCause s component
   pub empty : (p : ℕ) → IsFirstEmpty s component p → (low high : ℕ) × IsOfFirstEmpty s component r low high
   pub earlier : (j : ℕ) (c : Component) → j < k → slice_get components j ≡ Some c → (part : Part) × IsPart s c part
 
@@ -62,36 +59,13 @@ pub record ArePartsOf (s : Constraints) (parts : List Part) : Type 0 where
   pub part : (k : ℕ) (c : Component) (part : Part) → slice_get components k ≡ Some c → slice_get parts k ≡ Some part → IsPart s c part
   pub some : (k : ℕ) × (cause : Cause) × (slice_get parts k ≡ Some (Wide cause))
 
--- the answer to the joint question: values for all points that solve the system, or multipliers that contradict a component, which the
--- checker accepts; or parts
+-- no component of the system has a cause
+abbrev pub HasNoCauses : Constraints → Type 0
+HasNoCauses s = (c : Component) → IsComponent s c → HasNoCause s c
+
+-- the answer to the joint question: values for all points that solve the system, where no component has a cause; or multipliers that
+-- contradict a component; the checker accepts both. Or parts
 abbrev pub IsAnswer : Constraints → Joint → Type 0
-IsAnswer s (Settled (Feasible values)) = Proves s (Feasible values) × IsJudgement s (Feasible values) Accepted
+IsAnswer s (Settled (Feasible values)) = Proves s (Feasible values) × IsJudgement s (Feasible values) Accepted × HasNoCauses s
 IsAnswer s (Settled (Infeasible r)) = IsRefuted s r × IsJudgement s (Infeasible r) Accepted
 IsAnswer s (TooWide parts) = ArePartsOf s parts
-
--- ---- components that are not settled
-
--- the component has no empty point and no wide fact, and is no narrow forest
-pub record IsOther (s : Constraints) (c : Component) : Type 0 where
-  pub none_empty : HasNoEmpty s c
-  pub none_wide : HasNoWide s c
-  pub no_forest : ¬ IsNarrowForest s c
-
--- component k is the first of these
-pub record IsFirstOther (s : Constraints) (k : ℕ) : Type 0 where
-  pub components : List Component
-  pub are : AreComponents s components
-  pub component : Component
-  pub there : slice_get components k ≡ Some component
-  pub other : IsOther s component
-  pub first : (j : ℕ) (c : Component) → j < k → slice_get components j ≡ Some c → ¬ IsOther s c
-
--- no component is one of these
-abbrev pub HasNoOther : Constraints → Type 0
-HasNoOther s = (components : List Component) → AreComponents s components → (k : ℕ) (c : Component) → slice_get components k ≡ Some c → ¬ IsOther s c
-
--- what is answered of a system; memory may have run out
-abbrev pub Answers : Constraints → Result Joint SettleFault → Type 0
-Answers s (Ok joint) = HasNoOther s × IsAnswer s joint
-Answers s (Err Memory) = Unit {0}
-Answers s (Err (NotForest k)) = IsFirstOther s k

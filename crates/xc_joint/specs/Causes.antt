@@ -1,11 +1,14 @@
 -- Why a component has no answer.
 use Rattle.std.specs.Prelude.{◌≡◌, ℕ, ◌<◌, pos, [], ◌∷◌, Err, length, map, IsTrue}
+use Rattle.xc_corners.specs.Corners.{CornerLists}
 use Rattle.xc_frac.specs.declared.wide.Wide.{Wide}
 use Rattle.xc_interval.specs.Ranges.{IsEmptyMeetOf}
 use Rattle.xc_interval.specs.declared.range.Range.TheVariants as range
+use Rattle.xc_joint.specs.CornerCauses.{CornerPasses}
 use Rattle.xc_joint.specs.declared.types.Cause.{Cause}
-use Rattle.xc_joint.specs.declared.types.Cause.TheVariants.{Fact, Ends}
+use Rattle.xc_joint.specs.declared.types.Cause.TheVariants.{Fact, Ends, Corner}
 use Rattle.xc_model.specs.Ratio.{Ratio}
+use Rattle.xc_system.specs.Forests.{IsNarrowForest}
 use Rattle.xc_system.specs.Kept.{Multipliers}
 use Rattle.xc_lists.specs.Members.{IsIn}
 use Rattle.xc_system.specs.Spots.{AreTightest, is_wide_fact}
@@ -70,7 +73,23 @@ pub record IsLeastWide (s : Constraints) (c : Component) (k : ℕ) : Type 0 wher
   pub wide : IsWideOf s c k
   pub least : (j : ℕ) → j < k → ¬ IsWideOf s c j
 
+-- the component has no empty point and no wide fact, and is no narrow forest
+pub record IsOther (s : Constraints) (c : Component) : Type 0 where
+  pub none_empty : HasNoEmpty s c
+  pub none_wide : HasNoWide s c
+  pub no_forest : ¬ IsNarrowForest s c
+
+-- so it is, and w passes at the corner that the lists tell
+pub record IsCornerCause (s : Constraints) (c : Component) (lists : CornerLists) (w : Wide) : Type 0 where
+  pub other : IsOther s c
+  pub passes : CornerPasses s c lists w
+
 -- why the component has no answer
 abbrev pub IsCause : Constraints → Component → Cause → Type 0
 IsCause s c (Ends low high w) = EndsPass s c low high w
 IsCause s c (Fact k) = IsLeastWide s c k
+IsCause s c (Corner lists w) = IsCornerCause s c lists w
+
+-- the component has no cause
+abbrev pub HasNoCause : Constraints → Component → Type 0
+HasNoCause s c = (cause : Cause) → ¬ IsCause s c cause

@@ -1,5 +1,7 @@
 -- What follows from the definitions.
 use Rattle.std.specs.Prelude.{◌≡◌, ℕ, ◌<◌, Bool, List, Ok, Some, length, map, slice_get}
+use Rattle.xc_corners.specs.Answers.{Solves as SolvesProblem}
+use Rattle.xc_corners.specs.declared.problem.Problem.{Problem}
 use Rattle.xc_forest.specs.Forests.{HasRoom, IsSignedSum, Solves, value_at as parts_at}
 use Rattle.xc_frac.specs.declared.delta.Delta.{Delta}
 use Rattle.xc_frac.specs.declared.wide.Op.{Op}
@@ -7,10 +9,13 @@ use Rattle.xc_frac.specs.declared.wide.Wide.{Wide}
 use Rattle.xc_interval.specs.Intervals.{numbers_of, HasNumber, HasPair}
 use Rattle.xc_interval.specs.declared.interval.Interval.{Interval}
 use Rattle.xc_joint.specs.Answers.{AreValuesOf}
+use Rattle.xc_joint.specs.Causes.{HasNoWide}
+use Rattle.xc_joint.specs.ComponentProblems.{IsProblemOf}
 use Rattle.xc_joint.specs.PointRanges.{AreRangesOf}
 use Rattle.xc_joint.specs.Small.{at, closed_pairs, pair, AreNumbersOf, IsPositive, IsSmallAt}
 use Rattle.xc_joint.specs.Solved.{AreWhole, NumbersSolve}
-use Rattle.xc_joint.specs.Steps.OneForest.{AreEach, AreRowsOf, IsBounded}
+use Rattle.xc_joint.specs.Lists.{AreEach}
+use Rattle.xc_joint.specs.Steps.OneForest.{AreRowsOf, IsBounded}
 use Rattle.xc_joint.specs.Widths.{Width, AreWithin, HasRoom as HasSmallRoom}
 use Rattle.xc_model.specs.Fraction.{Fraction}
 use Rattle.xc_model.specs.Parts.{Parts}
@@ -50,3 +55,7 @@ NumbersAreValues = (s : Constraints) (c : Component) → IsComponent s c → (ra
 -- and where its numbers leave room for their sums and no equation has a point twice, no operation passes where the checker sums an equation of it
 abbrev pub NumbersHaveSums : Type 0
 NumbersHaveSums = (s : Constraints) (c : Component) → IsComponent s c → IsNarrowForest s c → (ranges : List (Interval Ratio)) (rows : List (List (ℕ × Bool))) → AreEach (IsBounded s) c.points ranges → AreRowsOf s c rows → (xs : List Ratio) → NumbersSolve rows ranges xs → AreWhole ranges xs → (all : List Ratio) → ((i p : ℕ) (x : Ratio) → slice_get c.points i ≡ Some p → slice_get xs i ≡ Some x → slice_get all p ≡ Some x) → (i : ℕ) → IsIn i c.equations → (x : Ratio) × IsSumOf (equation_terms all (equation_at s.equations i).entries) (Ok x)
+
+-- values that solve the problem of a component without a wide fact are values of it
+abbrev pub SolutionsAreValues : Type 0
+SolutionsAreValues = (s : Constraints) (c : Component) → IsComponent s c → HasNoWide s c → (problem : Problem) → IsProblemOf s c problem → (xs : List Ratio) → SolvesProblem problem xs → AreValuesOf s c xs

@@ -1,7 +1,10 @@
 pub mod Answers
 pub mod Causes
+pub mod ComponentProblems
+pub mod CornerCauses
 pub mod Kinds
 pub mod Laws
+pub mod Lists
 pub mod PointRanges
 pub mod Settling
 pub mod Small

@@ -1,8 +1,9 @@
 -- Systems that are always settled.
 use Rattle.std.specs.Prelude.{◌≡◌, ℕ}
 use Rattle.xc_frac.specs.declared.wide.Wide.{Wide}
+use Rattle.xc_joint.specs.Answers.{IsAnswer}
 use Rattle.xc_joint.specs.Causes.{EndsPass, HasNoEmpty}
-use Rattle.xc_joint.specs.Kinds.{Answered, IsOutcome, Outcome}
+use Rattle.xc_joint.specs.declared.types.Joint.{Joint}
 use Rattle.xc_joint.specs.declared.types.Joint.TheVariants.{Settled}
 use Rattle.xc_system.specs.Components.{IsComponent}
 use Rattle.xc_system.specs.Forests.{IsNarrowForest}
@@ -15,6 +16,6 @@ pub record HasNarrowForests (s : Constraints) : Type 0 where
   pub forest : (c : Component) → IsComponent s c → HasNoEmpty s c → IsNarrowForest s c
   pub ends : (c : Component) → IsComponent s c → (low high : ℕ) (w : Wide) → ¬ EndsPass s c low high w
 
--- what is said of such a system is a certificate: no component of it is left open, and none has no answer
+-- the answer to such a system is a certificate: no component of it is without an answer
 abbrev pub NarrowForestsAreSettled : Type 0
-NarrowForestsAreSettled = (s : Constraints) (outcome : Outcome) → HasNarrowForests s → IsOutcome s outcome → (certificate : Certificate) × (outcome ≡ Answered (Settled certificate))
+NarrowForestsAreSettled = (s : Constraints) (joint : Joint) → HasNarrowForests s → IsAnswer s joint → (certificate : Certificate) × (joint ≡ Settled certificate)

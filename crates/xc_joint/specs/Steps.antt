@@ -1,7 +1,10 @@
+pub mod ByCorners
 pub mod Empties
 pub mod Gaps
 pub mod Multiplied
 pub mod OneForest
+pub mod ProblemRefutations
 pub mod Settling
+pub mod SpanProblems
 pub mod UnitSums
 pub mod Wides

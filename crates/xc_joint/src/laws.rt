@@ -2,7 +2,7 @@
 //!
 //! The functions do nothing: a function's contract is the law.
 ghost use Rattle.xc_joint.specs.Kinds.{HasOneKind};
-ghost use Rattle.xc_joint.specs.Laws.{NarrowForestsHaveNumbers, NumbersAreValues, NumbersHaveSums, NarrowForestsHaveRoom, NumbersOfSolutionsSolve, SmallSolves};
+ghost use Rattle.xc_joint.specs.Laws.{NarrowForestsHaveNumbers, NumbersAreValues, NumbersHaveSums, NarrowForestsHaveRoom, NumbersOfSolutionsSolve, SmallSolves, SolutionsAreValues};
 ghost use Rattle.xc_joint.specs.Settling.{NarrowForestsAreSettled};
 ghost use Rattle.xc_joint.specs.Steps.UnitSums.{UnitRefutationsSum};
 
@@ -43,6 +43,13 @@ pub fn numbers_are_values()
     tighter_ends();
 }
 
+/// Values that solve the problem of a component without a wide fact are values of it.
+pub fn solutions_are_values()
+    ensures { SolutionsAreValues }
+{
+    tighter_ends();
+}
+
 /// No operation passes where the checker sums an equation of a narrow forest over such numbers.
 pub fn numbers_have_sums()
     ensures { NumbersHaveSums }
@@ -55,8 +62,7 @@ pub fn unit_refutations_sum()
     sums_go_on();
 }
 
-/// All that can be answered of a system is of one kind: values exist, none do, some component has no answer, or this
-/// component is the first that is not settled.
+/// All answers to a system are of one kind: values exist, none do, or some component has no answer.
 pub fn one_kind()
     ensures { HasOneKind }
 {
@@ -67,7 +73,7 @@ pub fn one_kind()
 }
 
 /// Where every component without an empty point is a narrow forest, and no operation passes in the constant of an
-/// empty point, a system is always settled: what is said of it is a certificate.
+/// empty point, a system is always settled: the answer is a certificate.
 pub fn narrow_forests_are_settled()
     ensures { NarrowForestsAreSettled }
 {}

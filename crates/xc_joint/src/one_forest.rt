@@ -2,7 +2,8 @@
 ghost use Rattle.std.specs.Prelude.{◌≡◌, ◌<◌, ◌^◌, IfOk, IsSome, Some, All, length, slice_index};
 ghost use Rattle.std.specs.List.Sorted.{IsStrictlySortedBy};
 ghost use Rattle.std.specs.Ordering.{nat_cmp};
-ghost use Rattle.xc_joint.specs.Steps.OneForest.{AreEach, AreRowsOf, HasSome, IsBounded, IsRangeOf, IsRowOf, IsSolved, IsSign, IsSignedPlace, IsSpanOf};
+ghost use Rattle.xc_joint.specs.Lists.{AreEach};
+ghost use Rattle.xc_joint.specs.Steps.OneForest.{AreRowsOf, HasSome, IsBounded, IsRangeOf, IsRowOf, IsSolved, IsSign, IsSignedPlace, IsSpanOf};
 ghost use Rattle.xc_system.specs.Components.{IsComponent};
 ghost use Rattle.xc_system.specs.Forests.{IsNarrowForest, IsUnit};
 ghost use Rattle.xc_lists.specs.Members.{IsIn};
@@ -166,8 +167,8 @@ fn signed_places(
     Ok(Items::of(places))
 }
 
-// Where a point stands among the points of its component.
-fn place_of(points: &[u32], point: u32) -> u32
+/// Where a point stands among the points of its component.
+pub(crate) fn place_of(points: &[u32], point: u32) -> u32
     requires few { length points.now < 2 ^ 31 }
     requires ascend { IsStrictlySortedBy nat_cmp points.now }
     requires there { IsIn point points.now }

@@ -5,7 +5,8 @@ ghost use Rattle.std.specs.Ordering.{nat_cmp};
 ghost use Rattle.xc_joint.specs.Steps.Multiplied.{IsContradicted, IsListed, IsSigned, bindings_of, highs_of, is_minus, is_nonzero, is_plus, lows_of};
 ghost use Rattle.xc_joint.specs.Steps.UnitSums.{HasUnits};
 ghost use Rattle.xc_system.specs.Refutations.{IsContradictionOf};
-ghost use Rattle.xc_joint.specs.Steps.OneForest.{AreEach, IsSign};
+ghost use Rattle.xc_joint.specs.Lists.{AreEach};
+ghost use Rattle.xc_joint.specs.Steps.OneForest.{IsSign};
 
 use crate::one_forest::Span;
 use std::alloc::Global;

@@ -2,13 +2,16 @@
 ghost use Rattle.std.specs.Prelude.{◌≡◌, ℕ, ◌<◌, All, IfOk, length, slice_get};
 ghost use Rattle.std.specs.List.Sorted.{IsStrictlySortedBy};
 ghost use Rattle.std.specs.Ordering.{nat_cmp};
-ghost use Rattle.xc_joint.specs.Answers.{Answers, IsAnswer};
-ghost use Rattle.xc_joint.specs.Steps.Settling.{AreAmong, AreReady, IsFound, IsReady, IsTold};
+ghost use Rattle.xc_joint.specs.Answers.{IsAnswer};
+ghost use Rattle.xc_joint.specs.Causes.{HasNoEmpty, HasNoWide, IsOther};
+ghost use Rattle.xc_joint.specs.Lists.{AreAmong};
+ghost use Rattle.xc_joint.specs.Steps.Settling.{IsFound};
 ghost use Rattle.xc_system.specs.Components.{AreComponents, IsComponent};
+ghost use Rattle.xc_system.specs.Forests.{IsNarrowForest};
 ghost use Rattle.xc_lists.specs.Members.{IsIn};
 
+use crate::by_corners::{Cornered, settle_by_corners};
 use crate::empties::{Ended, first_empty, refute_empty};
-use crate::fault::SettleFault;
 use crate::forests::{Settlement, settle_forest};
 use crate::types::{Cause, Joint, Part};
 use crate::wides::least_wide;
@@ -21,44 +24,13 @@ use xc_system::{
 };
 use xc_verify::laws::proofs_are_accepted;
 
-/// Whether one value for each point satisfies all facts and all equations: an answer, or the first component that
-/// is not settled.
-pub fn settle(alloc: Global, system: &System) -> Result<Joint, SettleFault>
-    ensures { Answers system.now result }
+/// Whether one value for each point satisfies all facts and all equations.
+pub fn settle(alloc: Global, system: &System) -> Result<Joint, Memory>
+    ensures { IfOk result (IsAnswer system.now) }
 {
-    links_are_equivalences();
-    let Ok(components) = components(alloc, system) else {
-        return Err(SettleFault::Memory);
-    };
-    let Ok(mut scratch) = Scratch::new(alloc, system.points()) else {
-        return Err(SettleFault::Memory);
-    };
-    let mut number: u32 = 0;
-    for component in components.as_slice() {
-        if is_other(system, component, &mut scratch) {
-            return Err(SettleFault::NotForest(number));
-        }
-        number += 1;
-    }
-    match gather(alloc, system, components.as_slice()) {
-        Ok(joint) => Ok(joint),
-        Err(_) => Err(SettleFault::Memory),
-    }
-}
-
-// Whether a component is not settled: it has no empty point and no wide fact, and is no narrow forest.
-fn is_other(system: &System, component: &Component, scratch: &mut Scratch) -> bool
-    requires { IsComponent system.now component.now }
-    ensures told { IsTold system.now component.now result }
-    ensures scratch { scratch.new ≡ scratch.old }
-{
-    if first_empty(system, component).is_some() {
-        return false;
-    }
-    if least_wide(system, component).is_some() {
-        return false;
-    }
-    !is_narrow_forest(system, component, scratch)
+    let components = components(alloc, system)?;
+    let mut scratch = Scratch::new(alloc, system.points())?;
+    gather(alloc, system, components.as_slice(), &mut scratch)
 }
 
 /// What is found of one component.
@@ -73,10 +45,18 @@ pub enum Found {
 }
 
 // What is found of a component.
-fn settle_one(alloc: Global, system: &System, component: &Component) -> Result<Found, Memory>
+fn settle_one(
+    alloc: Global,
+    system: &System,
+    component: &Component,
+    scratch: &mut Scratch,
+) -> Result<Found, Memory>
     requires component { IsComponent system.now component.now }
-    requires ready { IsReady system.now component.now }
-    ensures { IfOk result (IsFound system.now component.now) }
+    requires sums { length scratch.old.sums ≡ system.now.points }
+    requires stops { length scratch.old.stops ≡ system.now.points }
+    ensures found { IfOk result (IsFound system.now component.now) }
+    ensures sums { length scratch.new.sums ≡ length scratch.old.sums }
+    ensures stops { length scratch.new.stops ≡ length scratch.old.stops }
 {
     if let Some(found) = first_empty(system, component) {
         return match refute_empty(alloc, system, component, found)? {
@@ -87,16 +67,77 @@ fn settle_one(alloc: Global, system: &System, component: &Component) -> Result<F
     if let Some(fact) = least_wide(system, component) {
         return Ok(Found::Wide(Cause::Fact(fact)));
     }
+    settle_known(alloc, system, component, scratch)
+}
+
+// What is found of a component without an empty point and without a wide fact.
+fn settle_known(
+    alloc: Global,
+    system: &System,
+    component: &Component,
+    scratch: &mut Scratch,
+) -> Result<Found, Memory>
+    requires component { IsComponent system.now component.now }
+    requires none_empty { HasNoEmpty system.now component.now }
+    requires none_wide { HasNoWide system.now component.now }
+    requires sums { length scratch.old.sums ≡ system.now.points }
+    requires stops { length scratch.old.stops ≡ system.now.points }
+    ensures found { IfOk result (IsFound system.now component.now) }
+    ensures sums { length scratch.new.sums ≡ length scratch.old.sums }
+    ensures stops { length scratch.new.stops ≡ length scratch.old.stops }
+{
+    if is_narrow_forest(system, component, scratch) {
+        return settle_narrow(alloc, system, component);
+    }
+    settle_other(alloc, system, component, scratch)
+}
+
+// What is found of a narrow forest.
+fn settle_narrow(alloc: Global, system: &System, component: &Component) -> Result<Found, Memory>
+    requires component { IsComponent system.now component.now }
+    requires none_empty { HasNoEmpty system.now component.now }
+    requires none_wide { HasNoWide system.now component.now }
+    requires forest { IsNarrowForest system.now component.now }
+    ensures { IfOk result (IsFound system.now component.now) }
+{
     match settle_forest(alloc, system, component)? {
         Settlement::Values(values) => Ok(Found::Values(values)),
         Settlement::Refuted(refutation) => Ok(Found::Refuted(refutation)),
     }
 }
 
+// What is found of a component that is no narrow forest.
+fn settle_other(
+    alloc: Global,
+    system: &System,
+    component: &Component,
+    scratch: &mut Scratch,
+) -> Result<Found, Memory>
+    requires component { IsComponent system.now component.now }
+    requires other { IsOther system.now component.now }
+    requires sums { length scratch.old.sums ≡ system.now.points }
+    requires stops { length scratch.old.stops ≡ system.now.points }
+    ensures found { IfOk result (IsFound system.now component.now) }
+    ensures sums { length scratch.new.sums ≡ length scratch.old.sums }
+    ensures stops { length scratch.new.stops ≡ length scratch.old.stops }
+{
+    match settle_by_corners(alloc, system, component, scratch)? {
+        Cornered::Values(values) => Ok(Found::Values(values)),
+        Cornered::Refuted(refutation) => Ok(Found::Refuted(refutation)),
+        Cornered::TooWide(corner, wide) => Ok(Found::Wide(Cause::Corner(corner, wide))),
+    }
+}
+
 // The answer, from what is found of each component.
-fn gather(alloc: Global, system: &System, components: &[Component]) -> Result<Joint, Memory>
+fn gather(
+    alloc: Global,
+    system: &System,
+    components: &[Component],
+    scratch: &mut Scratch,
+) -> Result<Joint, Memory>
     requires components { AreComponents system.now components.now }
-    requires ready { AreReady system.now components.now (length components.now) }
+    requires sums { length scratch.old.sums ≡ system.now.points }
+    requires stops { length scratch.old.stops ≡ system.now.points }
     ensures { IfOk result (IsAnswer system.now) }
 {
     components_are_closed();
@@ -107,7 +148,7 @@ fn gather(alloc: Global, system: &System, components: &[Component]) -> Result<Jo
     let mut parts = Vec::new(alloc);
     let mut caused = false;
     for component in components {
-        match settle_one(alloc, system, component)? {
+        match settle_one(alloc, system, component, scratch)? {
             Found::Refuted(refutation) => {
                 return Ok(Joint::Settled(Certificate::Infeasible(refutation)));
             }
@@ -142,8 +183,8 @@ fn zeros(alloc: Global, points: u32) -> Result<Vec<Frac>, Memory>
     Ok(zeros)
 }
 
-// Writes the values of these points among those of all points.
-fn place(all: &mut [Frac], points: &[u32], values: &[Frac])
+/// Writes the values of these points among those of all points.
+pub(crate) fn place(all: &mut [Frac], points: &[u32], values: &[Frac])
     requires inside { All (λ p. p < length all.old) points.now }
     requires each { length values.now ≡ length points.now }
     requires ascend { IsStrictlySortedBy nat_cmp points.now }

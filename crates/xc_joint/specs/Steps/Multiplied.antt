@@ -5,7 +5,8 @@ use Rattle.std.specs.Ordering.{nat_cmp}
 use Rattle.xc_forest.specs.Forests.{Contradicts}
 use Rattle.xc_interval.specs.declared.interval.Interval.{Interval}
 use Rattle.xc_joint.specs.Small.{closed_pairs}
-use Rattle.xc_joint.specs.Steps.OneForest.{AreEach, AreRowsOf, IsRangeOf, IsSign, IsSpanOf}
+use Rattle.xc_joint.specs.Lists.{AreEach}
+use Rattle.xc_joint.specs.Steps.OneForest.{AreRowsOf, IsRangeOf, IsSign, IsSpanOf}
 use Rattle.xc_joint.specs.declared.one_forest.Span.{Span}
 use Rattle.xc_model.specs.Ratio.{Ratio}
 use Rattle.xc_system.specs.Components.{IsComponent}

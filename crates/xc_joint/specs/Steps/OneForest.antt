@@ -1,8 +1,9 @@
 -- The forest of a component: its points and equations by their places in the component, and for each point the tightest ends of its facts.
-use Rattle.std.specs.Prelude.{◌≡◌, ℕ, ◌<◌, pos, negsuc, Bool, true, false, List, [], ◌∷◌, Some, Ok, length, map, slice_index}
+use Rattle.std.specs.Prelude.{◌≡◌, ℕ, ◌<◌, pos, negsuc, Bool, true, false, List, Some, Ok, length, map, slice_index}
 use Rattle.xc_interval.specs.Ranges.{AllKnown, LiesInAll}
 use Rattle.xc_interval.specs.declared.interval.Interval.{Interval}
 use Rattle.xc_joint.specs.Causes.{IsEmptyPoint}
+use Rattle.xc_joint.specs.Lists.{AreEach}
 use Rattle.xc_joint.specs.Solved.{SolvesRanges}
 use Rattle.xc_joint.specs.declared.one_forest.Span.{Span}
 use Rattle.xc_joint.specs.declared.solving.Solution.{Solution}
@@ -13,13 +14,6 @@ use Rattle.xc_system.specs.Systems.{Constraints, equation_at, facts_of, range_at
 use Rattle.xc_system.specs.declared.types.Component.{Component}
 use Rattle.xc_system.specs.declared.types.Entry.{Entry}
 use Rattle.xc_system.specs.declared.types.Side.TheVariants.{Low, High}
-
--- the two lists are equally long, and what stands at one place of them is related
-abbrev pub AreEach : {A B : Type 0} → (A → B → Type 0) → List A → List B → Type 0
-AreEach R [] [] = Unit {0}
-AreEach R [] (y ∷ ys) = ⊥
-AreEach R (x ∷ xs) [] = ⊥
-AreEach R (x ∷ xs) (y ∷ ys) = R x y × AreEach R xs ys
 
 -- ---- points
 

@@ -1,7 +1,8 @@
 -- What is found of one component, and the values of all points.
 use Rattle.std.specs.Prelude.{◌≡◌, ℕ, ◌<◌, Bool, true, false, List, Some, Ok, slice_get, length}
-use Rattle.xc_joint.specs.Answers.{AreValuesOf, IsOther, IsPart}
-use Rattle.xc_joint.specs.Causes.{HasNoEmpty, HasNoWide, IsCause, IsFirstEmpty, IsOfFirstEmpty}
+use Rattle.xc_joint.specs.Answers.{AreValuesOf, IsPart}
+use Rattle.xc_joint.specs.Causes.{HasNoCause, IsCause, IsFirstEmpty, IsOfFirstEmpty}
+use Rattle.xc_joint.specs.Lists.{AreAmong}
 use Rattle.xc_joint.specs.Steps.UnitSums.{HasSums}
 use Rattle.xc_joint.specs.declared.settling.Found.{Found}
 use Rattle.xc_joint.specs.declared.settling.Found.TheVariants as found
@@ -11,7 +12,6 @@ use Rattle.xc_joint.specs.declared.types.Cause.{Cause}
 use Rattle.xc_joint.specs.declared.types.Part.{Part}
 use Rattle.xc_joint.specs.declared.types.Part.TheVariants.{Values, Wide}
 use Rattle.xc_model.specs.Ratio.{Ratio}
-use Rattle.xc_system.specs.Forests.{IsNarrowForest}
 use Rattle.xc_system.specs.Kept.{Multipliers}
 use Rattle.xc_lists.specs.Members.{IsIn}
 use Rattle.xc_system.specs.Refutations.{IsContradictionOf}
@@ -19,10 +19,6 @@ use Rattle.xc_system.specs.Systems.{Constraints, equation_at}
 use Rattle.xc_system.specs.declared.types.Component.{Component}
 use Rattle.xc_verify.specs.Feasible.{equation_terms}
 use Rattle.xc_verify.specs.Sums.{IsSumOf}
-
--- these values of these points, in order, stand among those of all points
-abbrev pub AreAmong : List ℕ → List Ratio → List Ratio → Type 0
-AreAmong points values all = (i p : ℕ) (x : Ratio) → slice_get points i ≡ Some p → slice_get values i ≡ Some x → slice_get all p ≡ Some x
 
 -- the same of the first n of these points
 abbrev pub AreFirstAmong : ℕ → List ℕ → List Ratio → List Ratio → Type 0
@@ -40,28 +36,15 @@ IsSettlement s c (settlement.Refuted r) = IsContradictionOf s c r × HasSums s r
 -- the refutation of a component without a cause
 pub record IsRefutedBy (s : Constraints) (c : Component) (r : Multipliers) : Type 0 where
   pub contradicts : IsContradictionOf s c r
-  pub uncaused : (cause : Cause) → ¬ IsCause s c cause
+  pub uncaused : HasNoCause s c
   pub empty : (p : ℕ) → IsFirstEmpty s c p → (low high : ℕ) × IsOfFirstEmpty s c r low high
   pub sums : HasSums s r
 
--- what is found of a component: values, a refutation or a cause
+-- what is found of a component: values where it has no cause, a refutation or a cause
 abbrev pub IsFound : Constraints → Component → Found → Type 0
-IsFound s c (found.Values values) = AreValuesOf s c values × HaveSums s c values
+IsFound s c (found.Values values) = AreValuesOf s c values × HaveSums s c values × HasNoCause s c
 IsFound s c (found.Refuted r) = IsRefutedBy s c r
 IsFound s c (found.Wide cause) = IsCause s c cause
-
--- a component without empty points and wide facts is a narrow forest
-abbrev pub IsReady : Constraints → Component → Type 0
-IsReady s c = HasNoEmpty s c → HasNoWide s c → IsNarrowForest s c
-
--- a component is other, or ready
-abbrev pub IsTold : Constraints → Component → Bool → Type 0
-IsTold s c true = IsOther s c
-IsTold s c false = IsReady s c
-
--- the first n components are ready
-abbrev pub AreReady : Constraints → List Component → ℕ → Type 0
-AreReady s cs n = (k : ℕ) (c : Component) → k < n → slice_get cs k ≡ Some c → IsReady s c
 
 -- of each of the first components a part is there, and values of it stand among those of all points
 pub record AreGathered (s : Constraints) (cs : List Component) (parts : List Part) (all : List Ratio) : Type 0 where

@@ -1,8 +1,9 @@
-use Rattle.std.proofs.Common.{ℕ, List, Ok, ap, sym, subst}
+use Rattle.std.proofs.Common.{ℕ, List, sym, subst}
 use Rattle.std.specs.Prelude.{All, IsSome}
 use Rattle.xc_interval.specs.declared.interval.Interval.{Interval}
 use Rattle.xc_joint.proofs.ForestParts.{forest_values, points_bounded, points_have, spans_known}
-use Rattle.xc_joint.specs.Steps.OneForest.{AreEach, HasSome, IsBounded, IsRangeOf, IsSolved, IsSpanOf}
+use Rattle.xc_joint.specs.Lists.{AreEach}
+use Rattle.xc_joint.specs.Steps.OneForest.{HasSome, IsBounded, IsRangeOf, IsSolved, IsSpanOf}
 use Rattle.xc_joint.specs.declared.one_forest.Span.{Span}
 use Rattle.xc_joint.specs.declared.solving.Solution.{Solution}
 use Rattle.xc_model.specs.Ratio.{Ratio}

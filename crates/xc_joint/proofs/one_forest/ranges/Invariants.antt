@@ -1,5 +1,6 @@
 use Rattle.std.proofs.Common.{List, ◌++◌, drop}
-use Rattle.xc_joint.specs.Steps.OneForest.{AreEach, IsRangeOf}
+use Rattle.xc_joint.specs.Lists.{AreEach}
+use Rattle.xc_joint.specs.Steps.OneForest.{IsRangeOf}
 use Rattle.xc_interval.specs.declared.interval.Interval.{Interval}
 use Rattle.xc_model.specs.Ratio.{Ratio}
 use Rattle.xc_joint.proofs.one_forest.ranges.Given as goal

@@ -1,4 +1,5 @@
-use Rattle.xc_joint.specs.Steps.OneForest.{AreEach, IsSignedPlace}
+use Rattle.xc_joint.specs.Lists.{AreEach}
+use Rattle.xc_joint.specs.Steps.OneForest.{IsSignedPlace}
 use Rattle.std.proofs.Common.{sym, subst}
 use Rattle.xc_lists.specs.Members.{IsIn}
 use Rattle.xc_joint.proofs.Each.{each_end}

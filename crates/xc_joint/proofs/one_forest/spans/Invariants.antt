@@ -1,5 +1,6 @@
 use Rattle.std.proofs.Common.{List, ◌++◌, drop}
-use Rattle.xc_joint.specs.Steps.OneForest.{AreEach, IsSpanOf}
+use Rattle.xc_joint.specs.Lists.{AreEach}
+use Rattle.xc_joint.specs.Steps.OneForest.{IsSpanOf}
 use Rattle.xc_joint.specs.declared.one_forest.Span.{Span}
 use Rattle.xc_joint.proofs.one_forest.spans.Given as goal
 

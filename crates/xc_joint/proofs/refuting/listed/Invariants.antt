@@ -1,4 +1,3 @@
-use Rattle.std.proofs.Common.{ℕ, List, ◌++◌, drop}
 use Rattle.xc_joint.specs.Steps.Multiplied.{IsListed}
 use Rattle.xc_joint.proofs.Each.{EachSoFar}
 use Rattle.xc_joint.proofs.refuting.listed.Given as goal

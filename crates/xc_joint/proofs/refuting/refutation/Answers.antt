@@ -1,7 +1,8 @@
 use Rattle.std.proofs.Common.{length, sym, ap, subst, ◌∙◌}
 use Rattle.xc_joint.specs.Small.{closed_pairs}
 use Rattle.xc_joint.specs.Steps.Multiplied.{IsListed, IsSigned, bindings_of}
-use Rattle.xc_joint.specs.Steps.OneForest.{AreEach, IsRangeOf, IsRowOf}
+use Rattle.xc_joint.specs.Lists.{AreEach}
+use Rattle.xc_joint.specs.Steps.OneForest.{IsRangeOf, IsRowOf}
 use Rattle.xc_joint.specs.Steps.UnitSums.{HasUnits}
 use Rattle.xc_joint.proofs.Ascending.{are_kept}
 use Rattle.xc_joint.proofs.Each.{each_length}

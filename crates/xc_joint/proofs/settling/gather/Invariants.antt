@@ -8,4 +8,6 @@ invariant-loop-component l = record {
   each : length l.parts.items ≡ l.component-index;
   gathered : AreGathered l.system l.components l.parts.items l.all.items;
   caused : HaveCause l.parts.items l.caused;
+  sums : length l.scratch.sums ≡ l.system.points;
+  stops : length l.scratch.stops ≡ l.system.points;
 }

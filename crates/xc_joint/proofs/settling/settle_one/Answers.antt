@@ -4,8 +4,8 @@ use Rattle.xc_joint.specs.Steps.Empties.{IsEnded, IsRefutedEmpty}
 use Rattle.xc_joint.specs.declared.empties.Ended.{Ended}
 use Rattle.xc_joint.proofs.settling.settle_one.Goals as goal
 
-pub returns-in-Refuted : goal.returns-in-Refuted
-returns-in-Refuted c =
+pub returns-in-Refuted-clause-found : goal.returns-in-Refuted-clause-found
+returns-in-Refuted-clause-found c =
     let s = c.args.system.now in
     let part = c.args.component.now in
     let found = c.in-Some.found in

@@ -1,7 +1,7 @@
 // What is written of all data points together.
 ghost use Rattle.std.specs.Prelude.{◌≡◌, ◌<◌, ◌++◌, All, IfOk, OnOk, codes, decimal, length, string_bytes};
 ghost use Rattle.std.specs.List.{enumerate_from};
-ghost use Rattle.xc_lines.specs.Joints.{IsWritable, NamesFactOf, cause_line, joint_lines, not_forest_line, part_line, part_lines};
+ghost use Rattle.xc_lines.specs.Joints.{IsWritable, NamesFactOf, cause_line, corner_words, joint_lines, number_words, part_line, part_lines};
 ghost use Rattle.xc_lines.specs.Judgements.{fact_id, wide_words};
 ghost use Rattle.xc_lines.specs.Lines.{printed};
 ghost use Rattle.xc_joint.specs.declared.types.Part.TheVariants as part;
@@ -10,6 +10,8 @@ use crate::judgements::{fact_id, push_wide};
 use crate::settled::settled_lines;
 use crate::texts::{push_number, push_text};
 use std::alloc::{AllocError, Global};
+use xc_corners::Corner;
+use xc_frac::Wide;
 use xc_joint::{Cause, Joint, Part};
 use xc_lists::Memory;
 use xc_report::{Fact, Report};
@@ -24,16 +26,6 @@ pub fn joint_lines(alloc: Global, report: &Report, joint: &Joint) -> Result<Vec<
         Joint::Settled(certificate) => settled_lines(alloc, report, certificate),
         Joint::TooWide(parts) => unsettled_lines(alloc, report.facts.as_slice(), parts.as_slice()),
     }
-}
-
-/// The line in place of a joint part where this component is none that can be settled. The only error is want of memory.
-pub fn not_forest_line(alloc: Global, component: u32) -> Result<Vec<u8>, Memory>
-    ensures { IfOk result (λ out. out.items ≡ not_forest_line component) }
-{
-    let mut line = String::from_str(alloc, "joint not-forest ")?;
-    push_number(&mut line, component as usize)?;
-    line.push_str("\n")?;
-    Ok(line.into_bytes())
 }
 
 // The lines where some component has no answer.
@@ -75,7 +67,7 @@ fn push_part(
 {
     match part {
         Part::Values(_) => Ok(()),
-        Part::Wide(cause) => push_cause(alloc, out, facts, number, *cause),
+        Part::Wide(cause) => push_cause(alloc, out, facts, number, cause),
     }
 }
 
@@ -85,23 +77,39 @@ fn push_cause(
     out: &mut Vec<u8>,
     facts: &[Fact],
     number: usize,
-    cause: Cause,
+    cause: &Cause,
 ) -> Result<(), Memory>
-    requires { NamesFactOf facts.now (part.Wide cause) }
-    ensures { OnOk result (out.new.items ≡ out.old.items ++ cause_line facts.now number cause) }
+    requires { NamesFactOf facts.now (part.Wide cause.now) }
+    ensures { OnOk result (out.new.items ≡ out.old.items ++ cause_line facts.now number cause.now) }
 {
     match cause {
         Cause::Fact(fact) => {
-            let line = wide_fact_line(alloc, number, fact, fact_id(facts, fact))?;
+            let line = wide_fact_line(alloc, number, *fact, fact_id(facts, *fact))?;
             Ok(out.extend_from_slice(line.as_bytes())?)
         }
         Cause::Ends(low, high, wide) => {
-            let head = ends_head(alloc, number, low, high)?;
-            out.extend_from_slice(head.as_bytes())?;
-            push_wide(alloc, out, wide)?;
-            Ok(out.push(b'\n')?)
+            let head = ends_head(alloc, number, *low, *high)?;
+            push_operation(alloc, out, &head, *wide)
+        }
+        Cause::Corner(corner, wide) => {
+            let head = corner_head(alloc, number, corner)?;
+            push_operation(alloc, out, &head, *wide)
         }
     }
+}
+
+// Appends a line that ends in an operation, with what stands before it.
+fn push_operation(
+    alloc: Global,
+    out: &mut Vec<u8>,
+    head: &str,
+    wide: Wide,
+) -> Result<(), Memory>
+    ensures { OnOk result (out.new.items ≡ out.old.items ++ (head.now ++ wide_words wide ++ codes "\n")) }
+{
+    out.extend_from_slice(head.as_bytes())?;
+    push_wide(alloc, out, wide)?;
+    Ok(out.push(b'\n')?)
 }
 
 fn wide_fact_line(alloc: Global, number: usize, fact: u32, id: &str) -> Result<String, AllocError>
@@ -127,6 +135,38 @@ fn ends_head(alloc: Global, number: usize, low: u32, high: u32) -> Result<String
     push_number(&mut head, high as usize)?;
     head.push_str(" op ")?;
     Ok(head)
+}
+
+// What stands before the operation at a corner.
+fn corner_head(alloc: Global, number: usize, corner: &Corner) -> Result<String, AllocError>
+    ensures { IfOk result (λ head. string_bytes head ≡ codes "component " ++ decimal number ++ codes " corner "
+        ++ corner_words corner.now ++ codes " op ") }
+{
+    let mut head = component(alloc, number, " corner ")?;
+    push_corner(&mut head, corner)?;
+    head.push_str(" op ")?;
+    Ok(head)
+}
+
+// Appends a corner.
+fn push_corner(out: &mut String, corner: &Corner) -> Result<(), AllocError>
+    ensures { OnOk result (string_bytes out.new ≡ string_bytes out.old ++ corner_words corner.now) }
+{
+    out.push_str("basic")?;
+    push_numbers(out, corner.basic())?;
+    out.push_str(" high")?;
+    push_numbers(out, corner.high())
+}
+
+// Appends numbers, each behind a blank.
+fn push_numbers(out: &mut String, numbers: &[u32]) -> Result<(), AllocError>
+    ensures { OnOk result (string_bytes out.new ≡ string_bytes out.old ++ number_words numbers.now) }
+{
+    for number in numbers {
+        out.push_str(" ")?;
+        push_number(out, *number as usize)?;
+    }
+    Ok(())
 }
 
 // The beginning of the line of a component.

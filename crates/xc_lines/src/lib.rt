@@ -10,7 +10,7 @@ mod settled;
 mod texts;
 
 pub use found::findings;
-pub use joints::{joint_lines, not_forest_line};
+pub use joints::joint_lines;
 pub use judgements::judgement_line;
 pub use lines::{placed_refusal_line, read_fault_line, refusal_line, usage_line};
 pub use settled::settled_lines;

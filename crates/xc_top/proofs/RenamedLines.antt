@@ -1,5 +1,5 @@
 -- Facts, networks and points with other numbers for their concepts have the same lines, and facts one answer.
-use Rattle.std.proofs.Common.{inl, inr, append_assoc, append-nil, ◌≡◌, ◌++◌, ◌||◌, ℕ, codes, List, [], map, length, filter, Bool, true, false, Option, Some, None, MatchBool, option_map, option_and_then, slice_get, flat_map, zip, if◌then◌else◌, refl, sym, ap, ap₂, subst, ◌∙◌}
+use Rattle.std.proofs.Common.{inl, inr, append_assoc, ◌≡◌, ◌++◌, ◌||◌, ℕ, codes, List, [], map, length, filter, Bool, true, false, Option, Some, None, MatchBool, option_map, option_and_then, slice_get, flat_map, zip, if◌then◌else◌, refl, sym, ap, ap₂, subst, ◌∙◌}
 use Rattle.std.proofs.Math.ListN.{length-map}
 use Rattle.std.proofs.lemmas.List.Folds.{flat_map-map}
 use Rattle.std.proofs.lemmas.Option.{slice_get-map}
@@ -13,9 +13,11 @@ use Rattle.xc_interval.specs.declared.mode.Mode.{Mode}
 use Rattle.xc_calc.specs.Networks.{role_of}
 use Rattle.xc_cert.specs.Certificates.{certificate_text}
 use Rattle.xc_interval.specs.Ranges.{is_empty_range}
-use Rattle.xc_joint.specs.Kinds.{Outcome, Answered, Unsettled, IsOutcome, Kind, HasOneKind, kind_of}
+use Rattle.xc_joint.specs.Answers.{IsAnswer as IsJointAnswer}
+use Rattle.xc_joint.specs.Kinds.{Kind, HasOneKind, kind_of}
+use Rattle.xc_joint.specs.declared.types.Joint.{Joint}
 use Rattle.xc_joint.specs.declared.types.Joint.TheVariants.{Settled, TooWide as Caused}
-use Rattle.xc_lines.specs.Joints.{not_forest_line, part_lines}
+use Rattle.xc_lines.specs.Joints.{joint_lines, part_lines}
 use Rattle.xc_lines.specs.Settled.{because_lines}
 use Rattle.xc_lines.specs.Findings.{first_id, first_id_at, counts_line, binding_line, empty_point_line, line_of, binding_lines, empty_point_lines, findings}
 use Rattle.xc_points.specs.Gathered.{ArePoints}
@@ -31,7 +33,7 @@ use Rattle.xc_top.proofs.RenamedVerdicts.{one_verdicts}
 use Rattle.xc_report.specs.Renamed.{renamed_fact}
 use Rattle.xc_top.proofs.Renaming.{IsInjective, renamed_network, renamed_point}
 use Rattle.xc_top.specs.Answers.{make_answer, refused}
-use Rattle.xc_top.specs.Findings.{is_inconsistent, is_too_wide, is_empty_point, is_contradicted, is_caused, status_of, joint_status, AreVerdicts, IsFindings, IsJointFindings, findings_of, outcome_lines}
+use Rattle.xc_top.specs.Findings.{is_inconsistent, is_too_wide, is_empty_point, is_contradicted, is_caused, status_of, joint_status, AreVerdicts, IsFindings, IsJointFindings, findings_of}
 use Rattle.xc_top.specs.Judged.{Asked, Sought, FindingsAlone, FindingsAndJoint, JudgementOf, IsJoint, IsSought, are_too_many, IsCounted}
 use Rattle.xc_top.specs.Laws.{AreOfOneKind, AreOneIf, kind_line}
 use Rattle.xc_top.specs.declared.status.Answer.{Answer}
@@ -109,12 +111,11 @@ module _ (f : ℕ → ℕ) where
 -- ---- joint parts
 
 -- a joint part begins with the line of its kind
-begins : (facts : List Fact) (outcome : Outcome) → (rest : List ℕ) × (outcome_lines facts outcome ≡ kind_line (kind_of outcome) ++ rest)
-begins facts (Answered (Settled (Feasible values))) = (certificate_text (Feasible values), refl)
-begins facts (Answered (Settled (Infeasible r))) =
+begins : (facts : List Fact) (joint : Joint) → (rest : List ℕ) × (joint_lines facts joint ≡ kind_line (kind_of joint) ++ rest)
+begins facts (Settled (Feasible values)) = (certificate_text (Feasible values), refl)
+begins facts (Settled (Infeasible r)) =
     (because_lines r (enumerate_from 0 facts) ++ certificate_text (Infeasible r), append_assoc (codes "joint infeasible\n") (because_lines r (enumerate_from 0 facts)) (certificate_text (Infeasible r)))
-begins facts (Answered (Caused parts)) = (part_lines facts (enumerate_from 0 parts), refl)
-begins facts (Unsettled k) = ([], sym (append-nil (not_forest_line k)))
+begins facts (Caused parts) = (part_lines facts (enumerate_from 0 parts), refl)
 
 -- ---- one answer
 
@@ -162,15 +163,15 @@ module _ (laws : Judges) (f : ℕ → ℕ) (injective : IsInjective f) (mode : M
       let found = are_found h.points k.points h.verdicts k.verdicts h.points_are k.points_are h.verdicts_are k.verdicts_are in
       let system : h.system ≡ k.system = one_system_in f laws.certifies.range laws.certifies.ends laws.certifies.system injective mode networks facts h.system k.system
       (record { points = h.points; points_are = h.points_are; system_is = h.system_is }) (record { points = k.points; points_are = k.points_are; system_is = k.system_is }) in
-      let kind : kind_of h.outcome ≡ kind_of k.outcome = laws.kind h.system h.outcome k.outcome h.kept h.outcome_is (subst (λ s. IsOutcome s k.outcome) (sym system) k.outcome_is) in
-      let status : joint_status k.points.points k.verdicts (kind_of k.outcome) ≡ joint_status h.points.points h.verdicts (kind_of h.outcome) =
-      (λ i. joint_status (found.points_are i) (sym found.verdicts_are i) (sym kind i)) ∙ joint_status_renamed f h.points.points h.verdicts (kind_of h.outcome) in
-      let first = begins facts h.outcome in
-      let second = begins (map (renamed_fact f) facts) k.outcome in
+      let kind : kind_of h.joint ≡ kind_of k.joint = laws.kind h.system h.joint k.joint h.kept h.joint_is (subst (λ s. IsJointAnswer s k.joint) (sym system) k.joint_is) in
+      let status : joint_status k.points.points k.verdicts (kind_of k.joint) ≡ joint_status h.points.points h.verdicts (kind_of h.joint) =
+      (λ i. joint_status (found.points_are i) (sym found.verdicts_are i) (sym kind i)) ∙ joint_status_renamed f h.points.points h.verdicts (kind_of h.joint) in
+      let first = begins facts h.joint in
+      let second = begins (map (renamed_fact f) facts) k.joint in
       record {
         status = ap (λ a. a.status) h.is ∙ sym (ap (λ a. a.status) k.is ∙ status);
         findings = findings_of mode networks facts h.points.points h.verdicts;
-        kind = kind_of h.outcome;
+        kind = kind_of h.joint;
         rest = first.0;
         other_rest = second.0;
         one_is = ap (λ a. a.text) h.is ∙ ap (λ lines. findings_of mode networks facts h.points.points h.verdicts ++ lines) first.1;

@@ -3,7 +3,7 @@ use Rattle.std.proofs.Common.{◌≡◌, ℕ, List, [], ◌∷◌, Option, Some,
 use Rattle.std.specs.List.{AllByRecursion}
 use Rattle.std.specs.Option.{option_or}
 use Rattle.xc_io.specs.Shelf.{Files}
-use Rattle.xc_joint.specs.Kinds.{IsOutcome}
+use Rattle.xc_joint.specs.Answers.{IsAnswer as IsJointAnswer}
 use Rattle.xc_joint.specs.Settling.{NarrowForestsAreSettled}
 use Rattle.xc_lines.specs.JointPart.{IsClaim}
 use Rattle.xc_top.proofs.Leaving.{short_fetched}
@@ -62,7 +62,7 @@ module _ (laws : Says) (proves : AcceptanceProves) where
       let r = reached check FindingsAndJoint files written settled.judged h.answered in
       let j = r.answered in
       let c = claimed laws check.mode r.networks r.report.facts written j word is_claim settled.claims in
-      let is = settled_proves proves j.system c.certificate j.kept (subst (λ outcome. IsOutcome j.system outcome) c.settled j.outcome_is).1 in
+      let is = settled_proves proves j.system c.certificate j.kept (subst (λ joint. IsJointAnswer j.system joint) c.settled j.joint_is) in
       let text = holds laws check.mode r.networks r.report.facts written j c.certificate c.settled is.0 in
       inr (record {
         fetched = all_fetched verify written.text files later holding h.fetched;
@@ -100,15 +100,15 @@ module _ (laws : Says) (proves : AcceptanceProves) where
       let r = reached check FindingsAndJoint files answer judged first.answered in
       let j = r.answered in
       let system_is = system_in laws check.mode r.networks r.report.facts answer j in
-      let c = narrow j.system j.outcome (forests r.networks r.report j.system r.read system_is) j.outcome_is in
-      let proof = settled_proves proves j.system c.0 j.kept (subst (λ outcome. IsOutcome j.system outcome) c.1 j.outcome_is).1 in
+      let c = narrow j.system j.joint (forests r.networks r.report j.system r.read system_is) j.joint_is in
+      let proof = settled_proves proves j.system c.0 j.kept (subst (λ joint. IsJointAnswer j.system joint) c.1 j.joint_is) in
       record {
         networks = r.networks;
         report = r.report;
         read = r.read;
         found = j;
         certificate = c.0;
-        outcome = c.1;
+        joint = c.1;
         settled = record { judged = judged; claims = claims laws check.mode r.networks r.report.facts answer j c.0 c.1 };
         text = holds laws check.mode r.networks r.report.facts answer j c.0 c.1 proof.0;
         proves = proof.0;

@@ -10,9 +10,11 @@ use Rattle.xc_calc.specs.declared.arc.Network.{Network}
 use Rattle.xc_cert.specs.Certificates.{AreNumbers, IsCertificate, IsTextOf, certificate_text}
 use Rattle.xc_interval.specs.declared.mode.Mode.{Mode}
 use Rattle.xc_joint.specs.Answers.{IsAnswer}
-use Rattle.xc_joint.specs.Kinds.{Answered, Outcome, Unsettled, kind_of}
+use Rattle.xc_joint.specs.Kinds.{kind_of}
+use Rattle.xc_joint.specs.declared.types.Joint.{Joint}
 use Rattle.xc_joint.specs.declared.types.Joint.TheVariants.{Settled, TooWide as Caused}
 use Rattle.xc_lines.specs.JointPart.{BeginsJoint, Claims, IsClaim, IsJointPart}
+use Rattle.xc_lines.specs.Joints.{joint_lines}
 use Rattle.xc_lines.specs.Judgements.{claim}
 use Rattle.xc_lines.specs.Laws.{FindingsArePassed, FindingsArePlain, HasOneJointPart, SettledIsText}
 use Rattle.xc_lines.specs.Settled.{because_lines, settled_lines}
@@ -25,7 +27,7 @@ use Rattle.xc_system.specs.declared.types.Certificate.{Certificate}
 use Rattle.xc_system.specs.declared.types.Certificate.TheVariants.{Feasible, Infeasible}
 use Rattle.xc_top.proofs.Few.{ends_length}
 use Rattle.xc_top.specs.Certified.{IsSystemIn}
-use Rattle.xc_top.specs.Findings.{IsJointFindings, findings_of, has_finding, is_too_wide, joint_status, outcome_lines}
+use Rattle.xc_top.specs.Findings.{IsJointFindings, findings_of, has_finding, is_too_wide, joint_status}
 use Rattle.xc_top.specs.declared.status.Answer.{Answer}
 use Rattle.xc_top.specs.declared.status.Status.TheVariants.{Sound, Findings, TooWide}
 use Rattle.xc_verify.specs.Judgements.{IsJudgement, Proves}
@@ -64,9 +66,9 @@ module _ (acceptance : AcceptanceProves) where
 -- ---- the claim of a joint part
 
 -- a certificate that makes the claim was settled on
-pub record IsCertified (outcome : Outcome) (word : List ℕ) : Type 0 where
+pub record IsCertified (joint : Joint) (word : List ℕ) : Type 0 where
   pub certificate : Certificate
-  pub settled : outcome ≡ Answered (Settled certificate)
+  pub settled : joint ≡ Settled certificate
   pub claims : claim certificate ≡ word
 
 -- the letter that tells one joint part from another
@@ -74,27 +76,24 @@ abbrev letter : List ℕ → ℕ
 letter part = get_or part 6 0
 
 module _ (facts : List Fact) (rest : List ℕ) where
-  feasible : (outcome : Outcome) → outcome_lines facts outcome ≡ codes "joint feasible\n" ++ rest → IsCertified outcome (codes "feasible")
-  feasible (Answered (Settled (Feasible values))) e = record { certificate = Feasible values; settled = refl; claims = refl }
-  feasible (Answered (Settled (Infeasible r))) e = let wrong : 105 ≡ 102 = ap letter e in absurd (omega (arith, wrong))
-  feasible (Answered (Caused parts)) e = let wrong : 116 ≡ 102 = ap letter e in absurd (omega (arith, wrong))
-  feasible (Unsettled k) e = let wrong : 110 ≡ 102 = ap letter e in absurd (omega (arith, wrong))
+  feasible : (joint : Joint) → joint_lines facts joint ≡ codes "joint feasible\n" ++ rest → IsCertified joint (codes "feasible")
+  feasible (Settled (Feasible values)) e = record { certificate = Feasible values; settled = refl; claims = refl }
+  feasible (Settled (Infeasible r)) e = let wrong : 105 ≡ 102 = ap letter e in absurd (omega (arith, wrong))
+  feasible (Caused parts) e = let wrong : 116 ≡ 102 = ap letter e in absurd (omega (arith, wrong))
 
-  infeasible : (outcome : Outcome) → outcome_lines facts outcome ≡ codes "joint infeasible\n" ++ rest → IsCertified outcome (codes "infeasible")
-  infeasible (Answered (Settled (Feasible values))) e = let wrong : 102 ≡ 105 = ap letter e in absurd (omega (arith, wrong))
-  infeasible (Answered (Settled (Infeasible r))) e = record { certificate = Infeasible r; settled = refl; claims = refl }
-  infeasible (Answered (Caused parts)) e = let wrong : 116 ≡ 105 = ap letter e in absurd (omega (arith, wrong))
-  infeasible (Unsettled k) e = let wrong : 110 ≡ 105 = ap letter e in absurd (omega (arith, wrong))
+  infeasible : (joint : Joint) → joint_lines facts joint ≡ codes "joint infeasible\n" ++ rest → IsCertified joint (codes "infeasible")
+  infeasible (Settled (Feasible values)) e = let wrong : 102 ≡ 105 = ap letter e in absurd (omega (arith, wrong))
+  infeasible (Settled (Infeasible r)) e = record { certificate = Infeasible r; settled = refl; claims = refl }
+  infeasible (Caused parts) e = let wrong : 116 ≡ 105 = ap letter e in absurd (omega (arith, wrong))
 
-  certified : (outcome : Outcome) (word : List ℕ) → IsClaim word → outcome_lines facts outcome ≡ codes "joint " ++ word ++ codes "\n" ++ rest → IsCertified outcome word
-  certified outcome word (inl is) e = subst (λ w. IsCertified outcome w) (sym is) (feasible outcome (e ∙ ap (λ w. codes "joint " ++ w ++ codes "\n" ++ rest) is))
-  certified outcome word (inr is) e = subst (λ w. IsCertified outcome w) (sym is) (infeasible outcome (e ∙ ap (λ w. codes "joint " ++ w ++ codes "\n" ++ rest) is))
+  certified : (joint : Joint) (word : List ℕ) → IsClaim word → joint_lines facts joint ≡ codes "joint " ++ word ++ codes "\n" ++ rest → IsCertified joint word
+  certified joint word (inl is) e = subst (λ w. IsCertified joint w) (sym is) (feasible joint (e ∙ ap (λ w. codes "joint " ++ w ++ codes "\n" ++ rest) is))
+  certified joint word (inr is) e = subst (λ w. IsCertified joint w) (sym is) (infeasible joint (e ∙ ap (λ w. codes "joint " ++ w ++ codes "\n" ++ rest) is))
 
-begins_joint : (facts : List Fact) (outcome : Outcome) → BeginsJoint (outcome_lines facts outcome)
-begins_joint facts (Answered (Settled (Feasible values))) = refl
-begins_joint facts (Answered (Settled (Infeasible r))) = refl
-begins_joint facts (Answered (Caused parts)) = refl
-begins_joint facts (Unsettled k) = refl
+begins_joint : (facts : List Fact) (joint : Joint) → BeginsJoint (joint_lines facts joint)
+begins_joint facts (Settled (Feasible values)) = refl
+begins_joint facts (Settled (Infeasible r)) = refl
+begins_joint facts (Caused parts) = refl
 
 -- what is written of a certificate, behind its claim
 said_of : (facts : List Fact) (c : Certificate) → (rest : List ℕ) × (settled_lines facts c ≡ codes "joint " ++ claim c ++ codes "\n" ++ rest)
@@ -112,16 +111,16 @@ pub record Says : Type 0 where
   pub text : SettledIsText
 
 -- an answer with a certificate is too wide only where a verdict is
-pub wide_verdict : (mode : Mode) (networks : List Network) (facts : List Fact) (answer : Answer) (h : IsJointFindings mode networks facts answer) (c : Certificate) → h.outcome ≡ Answered (Settled c)
+pub wide_verdict : (mode : Mode) (networks : List Network) (facts : List Fact) (answer : Answer) (h : IsJointFindings mode networks facts answer) (c : Certificate) → h.joint ≡ Settled c
     → answer.status ≡ TooWide → IsTrue (list_any is_too_wide h.verdicts)
-wide_verdict mode networks facts answer h c settled wide = of_kind c (sym (ap (λ a. a.status) h.is ∙ ap (λ outcome. joint_status h.points.points h.verdicts (kind_of outcome)) settled) ∙ wide)
+wide_verdict mode networks facts answer h c settled wide = of_kind c (sym (ap (λ a. a.status) h.is ∙ ap (λ joint. joint_status h.points.points h.verdicts (kind_of joint)) settled) ∙ wide)
   where
     by : (finding wide : Bool) → cond finding Findings (cond (wide || false) TooWide Sound) ≡ TooWide → IsTrue wide
     by true wide e = absurd (cc)
     by false true e = refl
     by false false e = absurd (cc)
 
-    of_kind : (c : Certificate) → joint_status h.points.points h.verdicts (kind_of (Answered (Settled c))) ≡ TooWide → IsTrue (list_any is_too_wide h.verdicts)
+    of_kind : (c : Certificate) → joint_status h.points.points h.verdicts (kind_of (Settled c)) ≡ TooWide → IsTrue (list_any is_too_wide h.verdicts)
     of_kind (Feasible values) e = by (has_finding h.points.points h.verdicts || false) (list_any is_too_wide h.verdicts) e
     of_kind (Infeasible r) e = by (has_finding h.points.points h.verdicts || true) (list_any is_too_wide h.verdicts) e
 
@@ -145,32 +144,32 @@ module _ (laws : Says) (mode : Mode) (networks : List Network) (facts : List Fac
   abbrev front : List ℕ
   front = findings_of mode networks facts h.points.points h.verdicts
 
-  written : answer.text ≡ front ++ outcome_lines facts h.outcome
+  written : answer.text ≡ front ++ joint_lines facts h.joint
   written = ap (λ a. a.text) h.is
 
   -- the joint part is what is said of the system
-  joint_part : IsJointPart answer.text (outcome_lines facts h.outcome)
+  joint_part : IsJointPart answer.text (joint_lines facts h.joint)
   joint_part = record {
     before = front;
     plain = laws.plain mode facts networks h.points.points (bindings_of networks h.points.points) h.verdicts few_bindings few_points;
-    begins = begins_joint facts h.outcome;
+    begins = begins_joint facts h.joint;
     is = written;
   }
 
   -- where it makes a claim, a certificate of that was settled on
-  pub claimed : (word : List ℕ) → IsClaim word → Claims answer.text word → IsCertified h.outcome word
-  claimed word is_claim c = certified facts c.rest h.outcome word is_claim (laws.part answer.text (outcome_lines facts h.outcome) c.part joint_part c.joint ∙ c.is)
+  pub claimed : (word : List ℕ) → IsClaim word → Claims answer.text word → IsCertified h.joint word
+  claimed word is_claim c = certified facts c.rest h.joint word is_claim (laws.part answer.text (joint_lines facts h.joint) c.part joint_part c.joint ∙ c.is)
 
   -- and where a certificate was settled on, it makes its claim, and the text is one of the certificate
-  pub claims : (c : Certificate) → h.outcome ≡ Answered (Settled c) → Claims answer.text (claim c)
+  pub claims : (c : Certificate) → h.joint ≡ Settled c → Claims answer.text (claim c)
   claims c settled =
       let said = said_of facts c in
-      record { part = outcome_lines facts h.outcome; joint = joint_part; rest = said.0; is = ap (λ outcome. outcome_lines facts outcome) settled ∙ said.1 }
+      record { part = joint_lines facts h.joint; joint = joint_part; rest = said.0; is = ap (λ joint. joint_lines facts joint) settled ∙ said.1 }
 
-  pub holds : (c : Certificate) → h.outcome ≡ Answered (Settled c) → Proves h.system c → IsTextOf answer.text c
+  pub holds : (c : Certificate) → h.joint ≡ Settled c → Proves h.system c → IsTextOf answer.text c
   holds c settled proves =
       let passed = laws.passed mode facts networks h.points.points (bindings_of networks h.points.points) h.verdicts few_bindings few_points in
-      let same : front ++ settled_lines facts c ≡ answer.text = sym (written ∙ ap (λ outcome. front ++ outcome_lines facts outcome) settled) in
+      let same : front ++ settled_lines facts c ≡ answer.text = sym (written ∙ ap (λ joint. front ++ joint_lines facts joint) settled) in
       subst (λ text. IsTextOf text c) same (laws.text front facts c passed few_facts (writable h.system c h.small proves))
 
   pub system_in : IsSystemIn mode networks facts h.system

@@ -2,7 +2,7 @@
 use Rattle.std.proofs.Common.{◌≡◌, ℕ, ◌^◌, ◌<◌, zero, suc, List, [], ◌∷◌, length, Some, slice_get, get_or, arith, refl, subst}
 use Rattle.std.proofs.lemmas.Option.{slice_get-get_or}
 use Rattle.xc_joint.specs.Answers.{IsAnswer, IsPart}
-use Rattle.xc_joint.specs.declared.types.Cause.TheVariants.{Fact as FactNumber, Ends}
+use Rattle.xc_joint.specs.declared.types.Cause.TheVariants.{Fact as FactNumber, Ends, Corner}
 use Rattle.xc_joint.specs.declared.types.Joint.{Joint}
 use Rattle.xc_joint.specs.declared.types.Joint.TheVariants.{Settled, TooWide}
 use Rattle.xc_joint.specs.declared.types.Part.{Part}
@@ -23,6 +23,7 @@ names_fact : (s : Constraints) (facts : List Fact) (c : Component) (part : Part)
 names_fact s facts c (Values values) same h = tt
 names_fact s facts c (Wide (FactNumber f)) same h = subst (λ n. f < n) same h.wide.there
 names_fact s facts c (Wide (Ends low high wide)) same h = tt
+names_fact s facts c (Wide (Corner corner wide)) same h = tt
 
 pub writable : (s : Constraints) (facts : List Fact) (joint : Joint) → s.points < 2 ^ 31 → length s.bounds ≡ length facts → IsAnswer s joint → IsWritable facts joint
 writable s facts (Settled (Feasible values)) few same h = let each = h.0.0 in omega arith

@@ -9,9 +9,11 @@ use Rattle.xc_bind.specs.declared.types.Verdict.TheVariants as verdict
 use Rattle.xc_calc.specs.declared.arc.Network.{Network}
 use Rattle.xc_interval.specs.Ranges.{is_empty_range}
 use Rattle.xc_interval.specs.declared.mode.Mode.{Mode}
-use Rattle.xc_joint.specs.Kinds.{Outcome, Answered, Unsettled, IsOutcome, Kind, Solved, Contradicted, Caused, Left, kind_of}
+use Rattle.xc_joint.specs.Answers.{IsAnswer}
+use Rattle.xc_joint.specs.Kinds.{Kind, Solved, Contradicted, Caused, kind_of}
+use Rattle.xc_joint.specs.declared.types.Joint.{Joint}
 use Rattle.xc_lines.specs.Findings.{findings}
-use Rattle.xc_lines.specs.Joints.{joint_lines, not_forest_line}
+use Rattle.xc_lines.specs.Joints.{joint_lines}
 use Rattle.xc_points.specs.Gathered.{ArePoints}
 use Rattle.xc_points.specs.Kept.{Gathered}
 use Rattle.xc_points.specs.declared.types.Point.{Point}
@@ -74,14 +76,12 @@ abbrev pub is_contradicted : Kind → Bool
 is_contradicted Solved = false
 is_contradicted Contradicted = true
 is_contradicted Caused = false
-is_contradicted (Left k) = false
 
 -- some component has no answer
 abbrev pub is_caused : Kind → Bool
 is_caused Solved = false
 is_caused Contradicted = false
 is_caused Caused = true
-is_caused (Left k) = false
 
 -- findings where there is one, or no assignment satisfies all; else too wide where a binding is, or some component has no answer; else sound
 abbrev pub joint_status : List Point → List Verdict → Kind → Status
@@ -89,11 +89,6 @@ joint_status points verdicts kind =
     if has_finding points verdicts || is_contradicted kind then Findings
     else if list_any is_too_wide verdicts || is_caused kind then TooWide
     else Sound
-
--- what is written of all points together
-abbrev pub outcome_lines : List Fact → Outcome → List ℕ
-outcome_lines facts (Answered joint) = joint_lines facts joint
-outcome_lines facts (Unsettled k) = not_forest_line k
 
 -- the findings of facts, and behind them what is said of the system of their points and bindings
 pub record IsJointFindings (mode : Mode) (networks : List Network) (facts : List Fact) (answer : Answer) : Type 0 where
@@ -105,6 +100,6 @@ pub record IsJointFindings (mode : Mode) (networks : List Network) (facts : List
   pub system_is : IsSystemOf points (bindings_of networks points.points) system
   pub kept : IsSystem system
   pub small : IsSmall system
-  pub outcome : Outcome
-  pub outcome_is : IsOutcome system outcome
-  pub is : answer ≡ make_answer (joint_status points.points verdicts (kind_of outcome)) (findings_of mode networks facts points.points verdicts ++ outcome_lines facts outcome)
+  pub joint : Joint
+  pub joint_is : IsAnswer system joint
+  pub is : answer ≡ make_answer (joint_status points.points verdicts (kind_of joint)) (findings_of mode networks facts points.points verdicts ++ joint_lines facts joint)

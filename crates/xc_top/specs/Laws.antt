@@ -1,8 +1,7 @@
 -- What follows from the definitions.
 use Rattle.std.specs.Prelude.{◌≡◌, ◌⊎◌, ◌++◌, ℕ, List, Option, Some, None, codes}
 use Rattle.xc_io.specs.Shelf.{Files}
-use Rattle.xc_joint.specs.Kinds.{Kind, Solved, Contradicted, Caused, Left}
-use Rattle.xc_lines.specs.Joints.{not_forest_line}
+use Rattle.xc_joint.specs.Kinds.{Kind, Solved, Contradicted, Caused}
 use Rattle.xc_top.specs.Answer.{IsAnswerOf}
 use Rattle.xc_top.specs.Documents.{AreDocumentsOf}
 use Rattle.xc_top.specs.Words.{CommandWords, SumOf, CheckOf, VerifyOf, words_of}
@@ -25,7 +24,6 @@ abbrev pub kind_line : Kind → List ℕ
 kind_line Solved = codes "joint feasible\n"
 kind_line Contradicted = codes "joint infeasible\n"
 kind_line Caused = codes "joint too-wide\n"
-kind_line (Left k) = not_forest_line k
 
 -- the same status and the same findings, behind which joint parts of one kind stand: the certificate, or the causes, may be others
 pub record AreOfOneKind (one other : Answer) : Type 0 where

@@ -4,7 +4,6 @@ use Rattle.std.specs.List.{AllByRecursion, list_any}
 use Rattle.xc_calc.specs.declared.arc.Network.{Network}
 use Rattle.xc_cert.specs.Certificates.{IsTextOf}
 use Rattle.xc_io.specs.Shelf.{Files}
-use Rattle.xc_joint.specs.Kinds.{Answered}
 use Rattle.xc_joint.specs.Settling.{HasNarrowForests}
 use Rattle.xc_joint.specs.declared.types.Joint.TheVariants.{Settled}
 use Rattle.xc_lines.specs.JointPart.{Claims, IsClaim}
@@ -64,7 +63,7 @@ pub record IsSettledBy (check : CheckWords) (files : Files) (answer : Answer) : 
   pub read : IsReadFrom check files networks report
   pub found : IsJointFindings check.mode networks report.facts answer
   pub certificate : Certificate
-  pub outcome : found.outcome ≡ Answered (Settled certificate)
+  pub joint : found.joint ≡ Settled certificate
   pub settled : IsSettledAs (claim certificate) answer
   pub text : IsTextOf answer.text certificate
   pub proves : Proves found.system certificate

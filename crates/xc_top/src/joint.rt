@@ -1,8 +1,7 @@
 // The findings of a report, with what is said of all its data points together.
 ghost use Rattle.std.specs.Prelude.{◌≡◌, ◌||◌, IfOk, false, length, if◌then◌else◌};
 ghost use Rattle.std.specs.List.{list_any};
-ghost use Rattle.xc_joint.specs.Answers.{Answers as AnswersTo};
-ghost use Rattle.xc_joint.specs.Kinds.{kind_of_joint};
+ghost use Rattle.xc_joint.specs.Kinds.{kind_of};
 ghost use Rattle.xc_top.specs.Findings.{IsJointFindings, is_caused, is_contradicted, has_finding, is_too_wide};
 ghost use Rattle.xc_top.specs.Judged.{are_too_many};
 ghost use Rattle.xc_top.specs.Steps.Joined.{IsPartOf, status_by};
@@ -16,8 +15,8 @@ use std::alloc::Global;
 use xc_bind::{Verdict, system};
 use xc_calc::Network;
 use xc_interval::Mode;
-use xc_joint::{Joint, SettleFault, settle};
-use xc_lines::{joint_lines, not_forest_line};
+use xc_joint::{Joint, settle};
+use xc_lines::joint_lines;
 use xc_lists::{Items, Memory};
 use xc_points::Point;
 use xc_report::Report;
@@ -61,41 +60,18 @@ fn part_of(alloc: Global, report: &Report, system: &System) -> Result<JointPart,
     requires { length system.now.bounds ≡ length report.now.facts }
     ensures { IfOk result (IsPartOf system.now report.now.facts) }
 {
-    // What is kept of the system.
-    let _points = system.points();
-    match settle(alloc, system) {
-        Ok(joint) => answered(alloc, report, system, &joint),
-        Err(SettleFault::NotForest(component)) => Ok(JointPart {
-            lines: not_forest_line(alloc, component)?,
-            contradicted: false,
-            caused: false,
-        }),
-        Err(SettleFault::Memory) => Err(Memory),
-    }
-}
-
-// What is said of an answer.
-fn answered(
-    alloc: Global,
-    report: &Report,
-    system: &System,
-    joint: &Joint,
-) -> Result<JointPart, Memory>
-    requires facts { length system.now.bounds ≡ length report.now.facts }
-    requires answers { AnswersTo system.now (Ok joint.now) }
-    ensures { IfOk result (IsPartOf system.now report.now.facts) }
-{
+    let joint = settle(alloc, system)?;
     // Its points are few enough for the lines of a certificate.
     let _points = system.points();
     Ok(JointPart {
-        lines: joint_lines(alloc, report, joint)?,
-        contradicted: is_contradicted(joint),
-        caused: is_caused(joint),
+        lines: joint_lines(alloc, report, &joint)?,
+        contradicted: is_contradicted(&joint),
+        caused: is_caused(&joint),
     })
 }
 
 fn is_contradicted(joint: &Joint) -> bool
-    ensures { result ≡ is_contradicted (kind_of_joint joint.now) }
+    ensures { result ≡ is_contradicted (kind_of joint.now) }
 {
     match joint {
         Joint::Settled(Certificate::Infeasible(_)) => true,
@@ -105,7 +81,7 @@ fn is_contradicted(joint: &Joint) -> bool
 }
 
 fn is_caused(joint: &Joint) -> bool
-    ensures { result ≡ is_caused (kind_of_joint joint.now) }
+    ensures { result ≡ is_caused (kind_of joint.now) }
 {
     match joint {
         Joint::Settled(_) => false,

@@ -112,7 +112,7 @@ ConflictIsLast = (p : WholeProblem) (x y : Corner) (t : Factors) (above : Bool) 
 
 -- ---- The operations at a corner give the factors and the values at the next one.
 
--- what an exchange of b and q divides by is not 0, and is above 0
+-- the denominator is positive, and what an exchange of b and q divides by is not 0
 pub record MayExchange (t : Factors) (b q : ℕ) : Type 0 where
   pub over : 0 < t.over
   pub some : t.factor b q ≢ pos 0

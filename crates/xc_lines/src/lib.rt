@@ -1,4 +1,5 @@
-//! The lines of an output: what is found of a report's bindings and data points, and what is said in place of it.
+//! The lines of an output: what is found of a report's bindings and data points, what is said of all of them together, the
+//! judgement of a certificate, and what is said in place of these.
 #![tactic(auto)]
 
 mod found;

@@ -59,14 +59,15 @@ root_refusal word nodes =
     else if is_linkbase nodes then None
     else Some (refused word (codes "xc:notTaxonomy"))
 
--- what is answered of a document that is neither a schema nor a linkbase
+-- what is answered of a document that is no XML document, or neither a schema nor a linkbase
 abbrev pub content_refusal : List ℕ → Content → Option Answer
 content_refusal word (Elements nodes) = root_refusal word nodes
 content_refusal word (Broken fault) = tree_refusal word fault
 
+-- the same with its word
 abbrev pub document_refusal : Document → Option Answer
 document_refusal document = content_refusal document.word document.content
 
--- what is answered of the first document that is neither
+-- what is answered of the first such document
 abbrev pub first_unread : List Document → Option Answer
 first_unread documents = first_given document_refusal documents

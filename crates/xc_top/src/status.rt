@@ -9,9 +9,10 @@ use xc_lists::{Items, Memory};
 /// How a run ends. `number` gives what the program ends with.
 #[derive(Clone, Copy, Debug, PartialEq, Eq)]
 pub enum Status {
-    /// All that was asked agrees.
+    /// Nothing that was asked disagrees; a certificate is accepted.
     Sound,
-    /// A total disagrees with its contributors.
+    /// A total disagrees with its contributors, a data point is empty, no assignment satisfies all, or a certificate misses
+    /// something.
     Findings,
     /// The words are not accepted.
     Usage,

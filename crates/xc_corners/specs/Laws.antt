@@ -29,7 +29,7 @@ abbrev pub ExchangeSolves : Type 0
 ExchangeSolves = (p : WholeProblem) (x : Corner) (t : Factors) (above : Bool) (b q : ℕ) → IsSolvedForm p x t → b < variables p → q < variables p
     → x.basic b ≡ true → x.basic q ≡ false → t.factor b q ≢ pos 0 → IsSolvedForm p (exchanged p x above b q) (pivoted t b q)
 
--- the first corner has this one
+-- the first corner has one whose factors are the weights of the rows
 abbrev pub FirstSolved : Type 0
 FirstSolved = (p : WholeProblem) → IsWholeProblem p → IsSolvedForm p (first p) (first_factors p)
 
@@ -58,7 +58,7 @@ ExchangeMovesTwo = (p : WholeProblem) (x : Corner) (above : Bool) (b q : ℕ) �
 abbrev pub OtherIsAtBound : Type 0
 OtherIsAtBound = (p : WholeProblem) (x : Corner) (t : Factors) (j : ℕ) → x.basic j ≡ false → value p x t j ≡ times (pos t.over) (bound p x j)
 
--- two solved forms of a corner give the same values
+-- two solved forms of a corner give the same values, each over its own number
 abbrev pub HasOneValue : Type 0
 HasOneValue = (p : WholeProblem) (x : Corner) (s t : Factors) (j : ℕ) → IsSolvedForm p x s → IsSolvedForm p x t → j < variables p
     → times (pos t.over) (value p x s j) ≡ times (pos s.over) (value p x t j)
@@ -92,7 +92,7 @@ HasOneChoice = (p : WholeProblem) (x y z : Corner) (b q d r : ℕ) → IsWholePr
 abbrev pub IsOneRun : Type 0
 IsOneRun = (p : WholeProblem) (n : ℕ) (y z : Corner) → IsWholeProblem p → IsReachedBy p n y → IsReachedBy p n z → y ≡ z
 
--- an exchange more leads to a corner of the run
+-- an exchange leads from a corner of the run to the one after it
 abbrev pub RunGoesOn : Type 0
 RunGoesOn = (p : WholeProblem) (n : ℕ) (y z : Corner) (b q : ℕ) → IsReachedBy p n y → Exchange p y b q z → IsReachedBy p (suc n) z
 
@@ -203,7 +203,7 @@ RowBounds = (problem : Problem) (j : ℕ) → length problem.ranges ≤ j → (l
 abbrev pub BoundsInOrder : Type 0
 BoundsInOrder = (p : WholeProblem) (j : ℕ) → IsWholeProblem p → low_bound p j ≼ high_bound p j
 
--- ranges and rows are as many, and there are as many variables as both
+-- there are as many ranges and rows as before, and as many variables as both together
 abbrev pub CountsVariables : Type 0
 CountsVariables = (problem : Problem) → (length (whole problem).ranges ≡ length problem.ranges) × (variables (whole problem) ≡ length problem.ranges + length problem.rows)
     × (length (whole problem).rows ≡ length problem.rows)

@@ -1,5 +1,5 @@
 -- Values beside bounds.
-use Rattle.std.proofs.Common.{◌≡◌, ◌≢◌, ℕ, ◌*◌, ◌<◌, Bool, true, false, ℤ, pos, inl, inr, refl, sym, ap, subst, arith, cond, negsuc, ◌↔◌, ◌&&◌, ⊎_elim}
+use Rattle.std.proofs.Common.{◌≡◌, ◌≢◌, ℕ, ◌*◌, ◌<◌, Bool, true, false, ℤ, pos, inl, inr, refl, sym, ap, subst, arith, cond, negsuc, ◌↔◌, ◌&&◌, not, ⊎_elim}
 use Rattle.std.specs.declared.cmp.Ordering.{Ordering}
 use Rattle.std.specs.declared.cmp.Ordering.TheVariants.{Less, Equal, Greater}
 use Rattle.std.proofs.lemmas.Int.{ints}
@@ -142,3 +142,7 @@ fixed_same a b h = ⊎_elim
     both true true e f = refl
     both true false e f = absurd (false≢true f)
     both false t e f = absurd (false≢true e)
+
+pub free_is : (r : Bool) (a b : WholeParts) → (IsTrue r ↔ (a ≢ b)) → r ≡ not (is_same_pair a b)
+free_is true a b h = ap not (sym (free_same a b (h.0 refl)))
+free_is false a b h = ap not (sym (fixed_same a b h.1))

@@ -1,6 +1,6 @@
 -- What the walk keeps, and how it stands for a corner.
 use Rattle.std.specs.Prelude.{◌≡◌, ◌⊎◌, ℕ, ◌+◌, ◌*◌, ◌<◌, ◌≤◌, Bool, true, false, List, length, Option, Some, None, slice_get, pos}
-use Rattle.xc_corners.specs.Choices.{Leaves, Enters, IsFeasible, IsConflict}
+use Rattle.xc_corners.specs.Choices.{Leaves, CanEnter, Enters, IsFeasible, IsConflict}
 use Rattle.xc_corners.specs.Corners.{low_bound, high_bound, Corner, Factors, IsSolvedForm, value}
 use Rattle.xc_corners.specs.Operations.{IsFactor}
 use Rattle.xc_corners.specs.Pairs.{◌≺◌, ◌≼◌, times}
@@ -87,6 +87,10 @@ pub record IsLeaving (p : WholeProblem) (places : List Place) (x : Corner) (t : 
 pub record IsEntering (p : WholeProblem) (places : List Place) (x : Corner) (t : Factors) (leaving : Leaving) (entering : Entering) : Type 0 where
   pub enters : Enters p x t leaving.above leaving.variable entering.variable
   pub column : HasColumn places entering.variable entering.column
+
+-- none of the variables below n can enter
+abbrev pub NoneEnters : Problem → State → Leaving → ℕ → Type 0
+NoneEnters problem s leaving n = (x : Corner) (t : Factors) → IsAt problem s x t → (k : ℕ) → k < n → ¬ CanEnter (whole problem) x t leaving.above leaving.variable k
 
 -- both
 pub record IsChoice (p : WholeProblem) (places : List Place) (x : Corner) (t : Factors) (choice : Choice) : Type 0 where

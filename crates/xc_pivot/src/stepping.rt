@@ -228,13 +228,28 @@ fn left_place(problem: &Problem, choice: &Choice) -> Place
     requires problem { IsProblem problem.now }
     ensures is { result ≡ left_place (is_left_high problem.now choice.now) choice.now.entering.column }
 {
+    side_place(is_left_high(problem, choice), choice.entering.column)
+}
+
+// Whether that is its high side.
+fn is_left_high(problem: &Problem, choice: &Choice) -> bool
+    requires problem { IsProblem problem.now }
+    ensures is { result ≡ is_left_high problem.now choice.now }
+{
     if !choice.leaving.above {
-        return Place::Low(choice.entering.column);
+        return false;
     }
-    if !is_free(problem, choice.leaving.variable) {
-        return Place::Low(choice.entering.column);
+    is_free(problem, choice.leaving.variable)
+}
+
+// A column, with the low side or the high one.
+fn side_place(is_high: bool, column: u32) -> Place
+    ensures { result ≡ left_place is_high column }
+{
+    if is_high {
+        return Place::High(column);
     }
-    Place::High(choice.entering.column)
+    Place::Low(column)
 }
 
 /// Goes on to the next corner; or answers an operation of the exchange that passes, and then the places are as

@@ -1,6 +1,6 @@
 // An exchange, written row by row into another table.
 ghost use Rattle.std.specs.Prelude.{◌≡◌, ◌≢◌, ◌<◌, ◌+◌, ◌*◌, ◌^◌, ℕ, pos, IfOk, IfErr, OnOk, OnErr, length};
-ghost use Rattle.xc_corners.specs.Operations.{IsProductFactor};
+ghost use Rattle.xc_corners.specs.Operations.{IsNegativeOf, IsProductFactor};
 ghost use Rattle.xc_frac.specs.declared.wide.Wide.{Wide};
 ghost use Rattle.xc_tableau.specs.Exchanges.{PassesIn, IsEntering, IsLeaving, IsMade, IsExchanged};
 ghost use Rattle.xc_tableau.specs.Steps.{IsPivot, table, EnteringDone, RowDone, RowsKept, OthersDone};
@@ -62,9 +62,14 @@ fn entering(entries: &[Frac], pivot: &Pivot, column: u32) -> Result<Frac, Wide>
     if column == pivot.column {
         return ratio(1, 1).div(pivot.value);
     }
-    entries[place(pivot.columns, pivot.row, column)]
-        .neg()
-        .div(pivot.value)
+    negative(entries[place(pivot.columns, pivot.row, column)]).div(pivot.value)
+}
+
+// Minus a number.
+fn negative(number: Frac) -> Frac
+    ensures { IsNegativeOf number result }
+{
+    number.neg()
 }
 
 // Writes every other row.

@@ -90,7 +90,9 @@ impl Tableau {
             column,
             value: self.entry(row, column),
         };
-        exchange(self.entries.as_slice(), self.spare.as_mut_slice(), &pivot)?;
+        if let Err(wide) = exchange(self.entries.as_slice(), self.spare.as_mut_slice(), &pivot) {
+            return Err(wide);
+        }
         std::mem::swap(&mut self.entries, &mut self.spare);
         Ok(())
     }

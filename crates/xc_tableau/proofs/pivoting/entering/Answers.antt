@@ -25,11 +25,11 @@ returns-clause-is c =
     let p = c.args.pivot.now in
     let here = has_read (table p c.args.entries.now) p.row c.args.column c.place.result c.index-entries-place.result c.requires.pivot.filled c.place.ensures c.requires.pivot.row c.requires.column c.index-entries-place.is in
     if_ok c.div-2.result _ (IsEntering (table p c.args.entries.now) p.row p.column c.args.column) c.div-2.ensures.exact
-    (λ u h. ((λ same. absurd (omega arith)), (λ other. record { factor = c.index-entries-place.result; is_factor = here; negative = c.neg.result; is_negative = c.neg.ensures.exact; pivot = p.value; is_pivot = c.requires.pivot.value; gives = h })))
+    (λ u h. ((λ same. absurd (omega arith)), (λ other. record { factor = c.index-entries-place.result; is_factor = here; negative = c.negative.result; is_negative = c.negative.ensures; pivot = p.value; is_pivot = c.requires.pivot.value; gives = h })))
 
 pub returns-clause-passes : goal.returns-clause-passes
 returns-clause-passes c =
     let p = c.args.pivot.now in
     let here = has_read (table p c.args.entries.now) p.row c.args.column c.place.result c.index-entries-place.result c.requires.pivot.filled c.place.ensures c.requires.pivot.row c.requires.column c.index-entries-place.is in
-    if_named c.div-2.result (PassesIn (table p c.args.entries.now) p.row p.column) (operation Div c.neg.result p.value) (Passes Div c.neg.result p.value) c.div-2.ensures.operands c.div-2.ensures.passes
-    (λ h. record { stands = other_divided c.args.column c.index-entries-place.result c.neg.result p.value c.requires.column (λ same. absurd (omega arith)) here c.neg.ensures.exact c.requires.pivot.value refl; passes = h })
+    if_named c.div-2.result (PassesIn (table p c.args.entries.now) p.row p.column) (operation Div c.negative.result p.value) (Passes Div c.negative.result p.value) c.div-2.ensures.operands c.div-2.ensures.passes
+    (λ h. record { stands = other_divided c.args.column c.index-entries-place.result c.negative.result p.value c.requires.column (λ same. absurd (omega arith)) here c.negative.ensures c.requires.pivot.value refl; passes = h })

@@ -14,10 +14,16 @@ returns-clause-exchanged c =
     let filled : length n ≡ s.spare.len = omega (arith, s.spare.ok.0) in
     let written = with_items_is s.spare n filled in
     let whole = ap (λ (xs : List Ratio). let t : Table = record { rows = s.rows; columns = s.columns; entries = xs } in t) (sym written) ∙ new in
-    exchanged_same c.args.row c.args.column _ _ _ _ old whole c.in_ok-exchange.ensures.exchanged
+    exchanged_same c.args.row c.args.column _ _ _ _ old whole c.in_default.ensures.exchanged
 
 pub returns-clause-fits : goal.returns-clause-fits
 returns-clause-fits c w h =
     let s = c.self.inside in
     let old = ap (λ (xs : List Ratio). let t : Table = record { rows = s.rows; columns = s.columns; entries = xs } in t) c.as_slice.ensures.value ∙ c.self.view_is in
-    c.in_ok-exchange.ensures.fits w (passes_same c.args.row c.args.column _ _ w old h)
+    c.in_default.ensures.fits w (passes_same c.args.row c.args.column _ _ w old h)
+
+pub returns-in-Err-clause-passes : goal.returns-in-Err-clause-passes
+returns-in-Err-clause-passes c =
+    let s = c.self.inside in
+    let old = ap (λ (xs : List Ratio). let t : Table = record { rows = s.rows; columns = s.columns; entries = xs } in t) c.as_slice.ensures.value ∙ c.self.view_is in
+    passes_same c.args.row c.args.column _ _ c.in-Err.wide (sym old) c.in-Err.ensures.passes

@@ -99,12 +99,7 @@ fn push_cause(
 }
 
 // Appends a line that ends in an operation, with what stands before it.
-fn push_operation(
-    alloc: Global,
-    out: &mut Vec<u8>,
-    head: &str,
-    wide: Wide,
-) -> Result<(), Memory>
+fn push_operation(alloc: Global, out: &mut Vec<u8>, head: &str, wide: Wide) -> Result<(), Memory>
     ensures { OnOk result (out.new.items ≡ out.old.items ++ (head.now ++ wide_words wide ++ codes "\n")) }
 {
     out.extend_from_slice(head.as_bytes())?;

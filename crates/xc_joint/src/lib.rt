@@ -13,8 +13,6 @@ mod refuting;
 mod settling;
 mod small;
 mod solving;
-#[cfg(test)]
-mod tests;
 mod types;
 mod wides;
 

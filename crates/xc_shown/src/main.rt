@@ -7,6 +7,7 @@ mod escapes;
 mod items;
 mod linkbases;
 mod nodes;
+mod numbers;
 mod pivots;
 mod reports;
 mod runs;
@@ -41,6 +42,7 @@ fn show(alloc: Global, subject: &str, parts: &[Part]) -> Result<String, AllocErr
         "runs" => runs::show(alloc, parts),
         "pivots" => pivots::show(alloc, parts),
         "walks" => walks::show(alloc, parts),
+        "numbers" => numbers::show(alloc, parts),
         _ => Ok(String::new(alloc)),
     }
 }

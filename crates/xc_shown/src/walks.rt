@@ -90,7 +90,8 @@ fn problem_of(alloc: Global, text: &str) -> Result<Problem, AllocError> {
     Ok(Problem { ranges, rows })
 }
 
-fn ranges_of(alloc: Global, text: &str) -> Result<Items<Interval<Frac>>, AllocError> {
+/// The ranges of a text.
+pub fn ranges_of(alloc: Global, text: &str) -> Result<Items<Interval<Frac>>, AllocError> {
     let mut ranges = Vec::new(alloc);
     for line in text.lines() {
         if line.strip_prefix("row ").is_none() {

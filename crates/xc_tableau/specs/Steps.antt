@@ -25,6 +25,10 @@ EnteringDone pivot entries n new = (j : ℕ) (u : Ratio) → j < n → Has (tabl
 abbrev pub RowDone : Pivot → List Ratio → ℕ → ℕ → List Ratio → Type 0
 RowDone pivot entries k n new = (j : ℕ) (r : Ratio) → j < n → Has (table pivot new) k j r → IsMade (table pivot entries) pivot.row pivot.column k j r
 
+-- row k has the factor 0 in column j
+abbrev pub HasZero : Table → ℕ → ℕ → Type 0
+HasZero t k j = (f : Ratio) × Has t k j f × (f.num ≡ pos 0)
+
 -- all rows but k are as they were
 abbrev pub RowsKept : Pivot → ℕ → List Ratio → List Ratio → Type 0
 RowsKept pivot k old new = (i j : ℕ) (r : Ratio) → i ≢ k → j < pivot.columns → Has (table pivot new) i j r → Has (table pivot old) i j r

@@ -1,9 +1,9 @@
 // An exchange, written row by row into another table.
-ghost use Rattle.std.specs.Prelude.{◌≡◌, ◌≢◌, ◌<◌, ◌+◌, ◌*◌, ◌^◌, ℕ, pos, IfOk, IfErr, OnOk, OnErr, length};
+ghost use Rattle.std.specs.Prelude.{◌≡◌, ◌≢◌, ◌<◌, ◌+◌, ◌*◌, ◌^◌, ℕ, pos, IfOk, IfErr, OnOk, OnErr, IsTrue, ◌↔◌, length};
 ghost use Rattle.xc_corners.specs.Operations.{IsNegativeOf, IsProductFactor};
 ghost use Rattle.xc_frac.specs.declared.wide.Wide.{Wide};
 ghost use Rattle.xc_tableau.specs.Exchanges.{PassesIn, IsEntering, IsLeaving, IsMade, IsExchanged};
-ghost use Rattle.xc_tableau.specs.Steps.{IsPivot, table, EnteringDone, RowDone, RowsKept, OthersDone};
+ghost use Rattle.xc_tableau.specs.Steps.{IsPivot, table, EnteringDone, HasZero, RowDone, RowsKept, OthersDone};
 ghost use Rattle.xc_tableau.specs.Tables.{Has};
 
 use xc_frac::{Frac, Wide, ratio};
@@ -72,6 +72,13 @@ fn negative(number: Frac) -> Frac
     number.neg()
 }
 
+// Whether a number is 0.
+fn is_zero(number: Frac) -> bool
+    ensures { IsTrue result ↔ (number.num ≡ pos 0) }
+{
+    number.num() == 0
+}
+
 // Writes every other row.
 fn fill_others(entries: &[Frac], new: &mut [Frac], pivot: &Pivot) -> Result<(), Wide>
     requires pivot { IsPivot pivot.now entries.now }
@@ -104,6 +111,10 @@ fn fill_row(entries: &[Frac], new: &mut [Frac], pivot: &Pivot, row: u32) -> Resu
         return Ok(());
     }
     let factor = entries[place(pivot.columns, row, pivot.column)];
+    if is_zero(factor) {
+        keep_row(entries, new, pivot, row);
+        return Ok(());
+    }
     for column in 0..pivot.columns {
         let entering = new[place(pivot.columns, pivot.row, column)];
         new[place(pivot.columns, row, column)] = made(
@@ -111,6 +122,24 @@ fn fill_row(entries: &[Frac], new: &mut [Frac], pivot: &Pivot, row: u32) -> Resu
         )?;
     }
     Ok(())
+}
+
+// Writes a row as it is: its factor of the pivot's column is 0, so nothing is added to it.
+fn keep_row(entries: &[Frac], new: &mut [Frac], pivot: &Pivot, row: u32)
+    requires pivot { IsPivot pivot.now entries.now }
+    requires row { row < pivot.now.rows }
+    requires other { row ≢ pivot.now.row }
+    requires room { length new.old ≡ pivot.now.rows * pivot.now.columns }
+    requires entering { EnteringDone pivot.now entries.now pivot.now.columns new.old }
+    requires factor { HasZero (table pivot.now entries.now) row pivot.now.column }
+    ensures room { length new.new ≡ length new.old }
+    ensures kept { RowsKept pivot.now row new.old new.new }
+    ensures done { RowDone pivot.now entries.now row pivot.now.columns new.new }
+{
+    for column in 0..pivot.columns {
+        let place = place(pivot.columns, row, column);
+        new[place] = entries[place];
+    }
 }
 
 // What stands afterwards in another row and a column, where the entering row has the entry of this column.

@@ -5,6 +5,19 @@ use Rattle.xc_tableau.proofs.Exchanging.{has_read}
 use Rattle.xc_tableau.proofs.Writing.{row_next, kept_next, entering_kept}
 use Rattle.xc_tableau.proofs.pivoting.fill_row.Goals as goal
 
+pub keep_row-requires-clause-factor : goal.keep_row-requires-clause-factor
+keep_row-requires-clause-factor c =
+    let p = c.args.pivot.now in
+    (c.index-entries-place.result, has_read (table p c.args.entries.now) c.args.row p.column c.place.result c.index-entries-place.result c.requires.pivot.filled c.place.ensures c.requires.row c.requires.pivot.column c.index-entries-place.is, c.is_zero.ensures.0 c.if-is_zero.true)
+
+pub returns-then-is_zero-clause-entering : goal.returns-then-is_zero-clause-entering
+returns-then-is_zero-clause-entering c = entering_kept c.args.pivot.now c.args.entries.now c.args.new.now c.keep_row.new.new c.args.row c.keep_row.ensures.kept c.if-row-pivot.false c.requires.entering
+
+pub made-requires-clause-factor : goal.made-requires-clause-factor
+made-requires-clause-factor c =
+    let p = c.args.pivot.now in
+    has_read (table p c.args.entries.now) c.args.row p.column c.place.result c.index-entries-place.result c.requires.pivot.filled c.place.ensures c.requires.row c.requires.pivot.column c.index-entries-place.is
+
 pub made-requires-clause-entering : goal.made-requires-clause-entering
 made-requires-clause-entering c =
     let p = c.args.pivot.now in

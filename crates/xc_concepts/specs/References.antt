@@ -3,7 +3,7 @@ use Rattle.std.specs.Prelude.{ℕ, List, [], codes, Option, Some, None, option_m
 use Rattle.std.specs.Option.{option_or}
 use Rattle.xc_lists.specs.Places.{places, is_place, first_given}
 use Rattle.xc_concepts.specs.Schemas.{text_at, top_name, restricted_type, restricted_element}
-use Rattle.xc_elements.specs.Trees.{space_in_scope}
+use Rattle.xc_elements.specs.Scopes.{space_in_scope}
 use Rattle.xc_elements.specs.declared.nodes.Node.{Node}
 use Rattle.xc_names.specs.Names.{name_of}
 use Rattle.xc_chars.specs.PlainNames.{is_plain_name, split}

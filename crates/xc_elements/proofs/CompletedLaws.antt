@@ -126,7 +126,7 @@ ended_last (m ∷ ns) n (suc number) end text e = ap (λ xs. m ∷ xs) (ended_la
 
 -- a node that is set in its place
 pub ended_there : (ns : List Node) (n : Node) (number end : ℕ) (text : List ℕ) → number < length ns → n ≡ get_or ns number n →
-    set ns number (record { space = n.space; local = n.local; attributes = n.attributes; parent = n.parent; end = end; text = text }) ≡ ended number end text ns
+    set ns number (record { space = n.space; local = n.local; attributes = n.attributes; declared = n.declared; parent = n.parent; end = end; text = text }) ≡ ended number end text ns
 ended_there [] n number end text h e = absurd (omega arith)
-ended_there (m ∷ ns) n zero end text h e = ap (λ (x : Node). record { space = x.space; local = x.local; attributes = x.attributes; parent = x.parent; end = end; text = text } ∷ ns) e
+ended_there (m ∷ ns) n zero end text h e = ap (λ (x : Node). record { space = x.space; local = x.local; attributes = x.attributes; declared = x.declared; parent = x.parent; end = end; text = text } ∷ ns) e
 ended_there (m ∷ ns) n (suc number) end text h e = ap (λ xs. m ∷ xs) (ended_there ns n number end text (omega arith) e)

@@ -163,7 +163,7 @@ scope_inside tag os scope inside e f =
 
 -- the node of a tag, with what is inside it
 abbrev finished : Node → ℕ → List ℕ → Node
-finished n end text = record { space = n.space; local = n.local; attributes = n.attributes; parent = n.parent; end = end; text = text }
+finished n end text = record { space = n.space; local = n.local; attributes = n.attributes; declared = n.declared; parent = n.parent; end = end; text = text }
 
 node_of_tag : (opens : List Kept) (scope inside : List Binding) (nodes : List Node) (r : Bool) (before : List Meaning) (tag : Tag) (node : Node) (more : ℕ) (text : List ℕ) →
     IsKeptOf opens scope nodes r before → inside ≡ declarations (tag ∷ []) ++ scope → HasNode opens inside (length nodes) tag node →

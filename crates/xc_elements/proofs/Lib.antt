@@ -26,3 +26,4 @@ pub mod CutLaws
 pub mod DocumentLaws
 pub mod GatherLaws
 pub mod TreeLaws
+pub mod NearestLaws

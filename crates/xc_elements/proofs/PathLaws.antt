@@ -3,7 +3,8 @@ use Rattle.std.proofs.Common.{◌≡◌, ℕ, zero, suc, ◌<◌, ◌≤◌, Lis
 use Rattle.std.specs.Prelude.{slice_get, option_and_then}
 use Rattle.std.specs.Option.{option_or}
 use Rattle.xc_elements.specs.declared.nodes.Node.{Node}
-use Rattle.xc_elements.specs.Trees.{IsTree, parent_of, upward, path, value_among, attribute_of, declarations_space, first_declared}
+use Rattle.xc_elements.specs.Trees.{IsTree, parent_of, upward, path}
+use Rattle.xc_elements.specs.Scopes.{set_by, set_at, first_declared}
 
 -- how many nodes the path from a node has at most
 abbrev pub height : Option ℕ → ℕ
@@ -46,14 +47,14 @@ pub parent_earlier : (nodes : List Node) (k : ℕ) (n : Node) → IsTree nodes �
 parent_earlier nodes k n t h e = earlier nodes k n.parent t h (parent_there nodes k n h e)
 
 -- the declaration of a node on the path, or else what is declared further up
-declared_on : (nodes : List Node) (steps : ℕ) (k : ℕ) (prefix : List ℕ) → suc k ≤ steps → (n : ℕ) × (steps ≡ suc n) × (first_declared nodes (upward nodes steps (Some k)) prefix ≡ option_or (attribute_of nodes k declarations_space prefix) (first_declared nodes (upward nodes n (parent_of nodes k)) prefix))
+declared_on : (nodes : List Node) (steps : ℕ) (k : ℕ) (prefix : List ℕ) → suc k ≤ steps → (n : ℕ) × (steps ≡ suc n) × (first_declared nodes (upward nodes steps (Some k)) prefix ≡ option_or (set_at nodes k prefix) (first_declared nodes (upward nodes n (parent_of nodes k)) prefix))
 declared_on nodes zero k prefix h = absurd (omega arith)
 declared_on nodes (suc n) k prefix h = (n, refl, refl)
 
-attribute_there : (nodes : List Node) (k : ℕ) (n : Node) (prefix : List ℕ) (o : Option (List ℕ)) → k < length nodes → n ≡ get_or nodes k n → o ≡ value_among n.attributes declarations_space prefix → attribute_of nodes k declarations_space prefix ≡ o
-attribute_there nodes k n prefix o h e v = ap (λ o. option_and_then (λ x. value_among x.attributes declarations_space prefix) o) (node_there nodes k n h e) ∙ sym v
+set_there : (nodes : List Node) (k : ℕ) (n : Node) (prefix : List ℕ) (o : Option (List ℕ)) → k < length nodes → n ≡ get_or nodes k n → o ≡ set_by n.declared prefix → set_at nodes k prefix ≡ o
+set_there nodes k n prefix o h e v = ap (λ o. option_and_then (λ x. set_by x.declared prefix) o) (node_there nodes k n h e) ∙ sym v
 
-pub climbs_more : (nodes : List Node) (node k : ℕ) (n : Node) (prefix : List ℕ) → IsTree nodes → k < length nodes → n ≡ get_or nodes k n → None ≡ value_among n.attributes declarations_space prefix → Climbs nodes node prefix (Some k) → Climbs nodes node prefix n.parent
+pub climbs_more : (nodes : List Node) (node k : ℕ) (n : Node) (prefix : List ℕ) → IsTree nodes → k < length nodes → n ≡ get_or nodes k n → None ≡ set_by n.declared prefix → Climbs nodes node prefix (Some k) → Climbs nodes node prefix n.parent
 climbs_more nodes node k n prefix t h e v c =
     let step = declared_on nodes c.steps k prefix c.enough in
     let count = step.1 in
@@ -64,14 +65,14 @@ climbs_more nodes node k n prefix t h e v c =
       enough = omega arith;
       within = omega arith;
       left = c.left ∙ step.2
-          ∙ ap (λ o. option_or o (first_declared nodes (upward nodes step.0 (parent_of nodes k)) prefix)) (attribute_there nodes k n prefix None h e v)
+          ∙ ap (λ o. option_or o (first_declared nodes (upward nodes step.0 (parent_of nodes k)) prefix)) (set_there nodes k n prefix None h e v)
           ∙ ap (λ o. first_declared nodes (upward nodes step.0 o) prefix) (parent_there nodes k n h e);
     }
 
-pub climbs_here : (nodes : List Node) (node k : ℕ) (n : Node) (prefix space : List ℕ) → k < length nodes → n ≡ get_or nodes k n → Some space ≡ value_among n.attributes declarations_space prefix → Climbs nodes node prefix (Some k) → Some space ≡ first_declared nodes (path nodes node) prefix
+pub climbs_here : (nodes : List Node) (node k : ℕ) (n : Node) (prefix space : List ℕ) → k < length nodes → n ≡ get_or nodes k n → Some space ≡ set_by n.declared prefix → Climbs nodes node prefix (Some k) → Some space ≡ first_declared nodes (path nodes node) prefix
 climbs_here nodes node k n prefix space h e v c =
     let step = declared_on nodes c.steps k prefix c.enough in
-    sym (c.left ∙ step.2 ∙ ap (λ o. option_or o (first_declared nodes (upward nodes step.0 (parent_of nodes k)) prefix)) (attribute_there nodes k n prefix (Some space) h e v))
+    sym (c.left ∙ step.2 ∙ ap (λ o. option_or o (first_declared nodes (upward nodes step.0 (parent_of nodes k)) prefix)) (set_there nodes k n prefix (Some space) h e v))
 
 nowhere : (nodes : List Node) (steps : ℕ) (prefix : List ℕ) → first_declared nodes (upward nodes steps None) prefix ≡ None
 nowhere nodes zero prefix = refl

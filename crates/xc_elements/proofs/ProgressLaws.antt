@@ -126,7 +126,7 @@ unfinished_as : (reader : Reader) (before : List Meaning) → Reads reader befor
 unfinished_as reader before k =
     ap (λ t. not t || length reader.nodes.items == 0) (same_none reader.opens (open_at before) k.are_open) ∙ ap (λ n. not (is_outside (open_at before)) || n == 0) k.count
 
-whole_reverse : (before after : List Meaning) → whole before after ≡ reverse before ++ after
+pub whole_reverse : (before after : List Meaning) → whole before after ≡ reverse before ++ after
 whole_reverse [] after = refl
 whole_reverse (m ∷ before) after =
     whole_reverse before (m ∷ after) ∙ sym (append_assoc (reverse before) (m ∷ []) after) ∙ ap (λ ms. ms ++ after) (sym (reverse-append (m ∷ []) before))

@@ -35,7 +35,7 @@ pub record IsAt (bound : List BoundPrefix) (prefix : List ℕ) (place : ℕ) : T
   pub within : place < length bound
   pub is : (d : BoundPrefix) → nearest (map binding_view bound) (chars prefix) ≡ Some (get_or (reverse bound) place d).space
 
-by_first : (b : Binding) (bs : List Binding) (prefix : List ℕ) (t : Bool) → bytes_eq b.prefix prefix ≡ t → nearest (b ∷ bs) prefix ≡ cond t (Some b.space) (nearest bs prefix)
+pub by_first : (b : Binding) (bs : List Binding) (prefix : List ℕ) (t : Bool) → bytes_eq b.prefix prefix ≡ t → nearest (b ∷ bs) prefix ≡ cond t (Some b.space) (nearest bs prefix)
 by_first b bs prefix true e = rw e refl
 by_first b bs prefix false e = rw e refl
 

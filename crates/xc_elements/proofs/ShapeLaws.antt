@@ -15,13 +15,13 @@ use Rattle.xc_elements.proofs.LineageLaws.{numbers, is_among, first_of, lineage,
 
 -- ---- the descendants of a node
 
-add_zero : (n : ℕ) → n + 0 ≡ n
+pub add_zero : (n : ℕ) → n + 0 ≡ n
 add_zero n = omega arith
 
-zero_add : (n : ℕ) → 0 + n ≡ n
+pub zero_add : (n : ℕ) → 0 + n ≡ n
 zero_add n = omega arith
 
-add_suc : (n i : ℕ) → n + suc i ≡ suc n + i
+pub add_suc : (n i : ℕ) → n + suc i ≡ suc n + i
 add_suc n i = omega arith
 
 -- a tag is no ancestor of itself or of an earlier one
@@ -82,7 +82,7 @@ parent_here : (os : List Open) (anc : List ℕ) → Some (numbers os) ≡ Some a
 parent_here os anc e = first_number os ∙ ap first_of (some_same (numbers os) anc e)
 
 -- the parent of a node is the innermost element that is open at its tag
-parents : (before after : List Meaning) (i : ℕ) (anc : List ℕ) → slice_get (lineage before after) i ≡ Some anc → parent_of (nodes_from before after) i ≡ first_of anc
+pub parents : (before after : List Meaning) (i : ℕ) (anc : List ℕ) → slice_get (lineage before after) i ≡ Some anc → parent_of (nodes_from before after) i ≡ first_of anc
 parents before [] i anc e = absurd cc
 parents before (Start name pairs ∷ after) zero anc e = parent_here (open_at before) anc e
 parents before (Start name pairs ∷ after) (suc i) anc e = parents (Start name pairs ∷ before) after i anc e
@@ -111,7 +111,7 @@ same_count before (Reference c ∷ after) = same_count (Reference c ∷ before) 
 -- ---- the path to the root
 
 -- what the lineage has behind these items
-lineage_behind : (before rest : List Meaning) (i : ℕ) → slice_get (lineage [] (whole before rest)) (begun before + i) ≡ slice_get (lineage before rest) i
+pub lineage_behind : (before rest : List Meaning) (i : ℕ) → slice_get (lineage [] (whole before rest)) (begun before + i) ≡ slice_get (lineage before rest) i
 lineage_behind [] rest i = ap (λ n. slice_get (lineage [] rest) n) (zero_add i)
 lineage_behind (Start name pairs ∷ before) rest i = ap (λ n. slice_get (lineage [] (whole before (Start name pairs ∷ rest))) n) (sym (add_suc (begun before) i)) ∙ lineage_behind before (Start name pairs ∷ rest) (suc i)
 lineage_behind (Empty name pairs ∷ before) rest i = ap (λ n. slice_get (lineage [] (whole before (Empty name pairs ∷ rest))) n) (sym (add_suc (begun before) i)) ∙ lineage_behind before (Empty name pairs ∷ rest) (suc i)
@@ -124,11 +124,11 @@ lineage_behind (Letter c ∷ before) rest i = lineage_behind before (Letter c �
 lineage_behind (Reference c ∷ before) rest i = lineage_behind before (Reference c ∷ rest) i
 
 -- the ancestors of each of these open elements are those outside it
-abbrev AreLinked : List (List ℕ) → List Open → Type 0
+abbrev pub AreLinked : List (List ℕ) → List Open → Type 0
 AreLinked all [] = Unit {0}
 AreLinked all (o ∷ os) = (slice_get all o.number ≡ Some (numbers os)) × AreLinked all os
 
-linked : (passed : ℕ) (before after : List Meaning) → AreLinked (lineage [] (whole before after)) (open_behind passed before)
+pub linked : (passed : ℕ) (before after : List Meaning) → AreLinked (lineage [] (whole before after)) (open_behind passed before)
 linked passed [] after = tt
 linked passed (End name ∷ before) after = linked (suc passed) before (End name ∷ after)
 linked zero (Start name pairs ∷ before) after = (
@@ -144,7 +144,7 @@ linked passed (Section text ∷ before) after = linked passed before (Section te
 linked passed (Letter c ∷ before) after = linked passed before (Letter c ∷ after)
 linked passed (Reference c ∷ before) after = linked passed before (Reference c ∷ after)
 
-climb : (nodes : List Node) (all : List (List ℕ)) (steps : ℕ) (os : List Open) → AreLinked all os → length os ≤ steps → ((k : ℕ) (anc : List ℕ) → slice_get all k ≡ Some anc → parent_of nodes k ≡ first_of anc) → upward nodes steps (first_of (numbers os)) ≡ numbers os
+pub climb : (nodes : List Node) (all : List (List ℕ)) (steps : ℕ) (os : List Open) → AreLinked all os → length os ≤ steps → ((k : ℕ) (anc : List ℕ) → slice_get all k ≡ Some anc → parent_of nodes k ≡ first_of anc) → upward nodes steps (first_of (numbers os)) ≡ numbers os
 climb nodes all zero [] h l p = refl
 climb nodes all (suc steps) [] h l p = refl
 climb nodes all zero (o ∷ os) h l p = absurd (omega (arith, l))

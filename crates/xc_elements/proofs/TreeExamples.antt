@@ -3,9 +3,11 @@ use lib.Utf8.{encode}
 use Rattle.std.specs.Prelude.{◌≡◌, ℕ, true, List, [], ◌∷◌, Option, Some, None, codes, refl}
 use Rattle.xc_elements.specs.Fronts.{exactly}
 use Rattle.xc_elements.specs.Items.{Name, Pair, Start, Empty, End, Letter, Reference}
+use Rattle.xc_elements.specs.Scopes.{space_in_scope}
 use Rattle.xc_elements.specs.Trees.{declarations_space}
 use Rattle.xc_elements.specs.Elements.{nodes_of, is_unbalanced, has_no_space, has_same_attribute}
 use Rattle.xc_elements.specs.declared.nodes.Attribute.{Attribute}
+use Rattle.xc_elements.specs.declared.nodes.NamespaceDeclaration.{NamespaceDeclaration}
 use Rattle.xc_elements.specs.declared.nodes.Node.{Node}
 
 abbrev plain : List ℕ → Name
@@ -14,12 +16,12 @@ plain local = record { prefix = []; local = local }
 abbrev under : List ℕ → List ℕ → Name
 under prefix local = record { prefix = prefix; local = local }
 
-abbrev node : List ℕ → List ℕ → List Attribute → Option ℕ → ℕ → List ℕ → Node
-node space local attributes parent end text = record { space = space; local = local; attributes = attributes; parent = parent; end = end; text = text }
+abbrev node : List ℕ → List ℕ → List Attribute → List NamespaceDeclaration → Option ℕ → ℕ → List ℕ → Node
+node space local attributes declared parent end text = record { space = space; local = local; attributes = attributes; declared = declared; parent = parent; end = end; text = text }
 
 -- <a>CR LF &#13; <b/></a>
 text_of_lines : nodes_of (Start (plain (codes "a")) [] ∷ Letter 13 ∷ Letter 10 ∷ Reference 13 ∷ Empty (plain (codes "b")) [] ∷ End (plain (codes "a")) ∷ []) ≡
-    node [] (codes "a") [] None 2 (10 ∷ 13 ∷ []) ∷ node [] (codes "b") [] (Some 0) 2 [] ∷ []
+    node [] (codes "a") [] [] None 2 (10 ∷ 13 ∷ []) ∷ node [] (codes "b") [] [] (Some 0) 2 [] ∷ []
 unfolding exactly encode
 text_of_lines = refl
 
@@ -28,9 +30,14 @@ declares prefix space = record { name = under (codes "xmlns") prefix; value = sp
 
 -- <a xmlns:p="u"><p:b/></a>
 prefix_of_parent : nodes_of (Start (plain (codes "a")) (declares (codes "p") (codes "u") ∷ []) ∷ Empty (under (codes "p") (codes "b")) [] ∷ End (plain (codes "a")) ∷ []) ≡
-    node [] (codes "a") (record { space = declarations_space; local = codes "p"; value = codes "u" } ∷ []) None 2 [] ∷ node (codes "u") (codes "b") [] (Some 0) 2 [] ∷ []
+    node [] (codes "a") (record { space = declarations_space; local = codes "p"; value = codes "u" } ∷ []) (record { prefix = codes "p"; space = codes "u" } ∷ []) None 2 [] ∷ node (codes "u") (codes "b") [] [] (Some 0) 2 [] ∷ []
 unfolding exactly encode
 prefix_of_parent = refl
+
+-- <a xmlns:q="http://www.w3.org/2000/xmlns/" q:p="u"/>, at the root: `q:p` is no declaration
+under_declarations : space_in_scope (nodes_of (Empty (plain (codes "a")) (declares (codes "q") declarations_space ∷ record { name = under (codes "q") (codes "p"); value = codes "u" } ∷ []) ∷ [])) 0 (codes "p") ≡ None
+unfolding exactly encode
+under_declarations = refl
 
 -- <a xmlns:p="u"><p:b xmlns:p=""/></a>, at the second tag
 empty_prefix : has_no_space (Start (plain (codes "a")) (declares (codes "p") (codes "u") ∷ []) ∷ []) (Empty (under (codes "p") (codes "b")) (declares (codes "p") [] ∷ [])) ≡ true

@@ -1,10 +1,12 @@
 -- The tree that a document stands for, or its first fault.
-use Rattle.std.specs.Prelude.{◌≡◌, ℕ, ◌+◌, ◌<◌, ◌⊎◌, Bool, true, false, List, [], ◌∷◌, ◌++◌, length, map, reverse, IsTrue}
+use Rattle.std.specs.Prelude.{◌≡◌, ℕ, ◌+◌, ◌<◌, ◌⊎◌, Bool, true, false, List, [], ◌∷◌, ◌++◌, length, map, reverse, Some, IsTrue, encode_utf8_all}
 use Rattle.std.specs.Str.{IsUtf8}
 use Rattle.std.specs.Str.Lossy.{utf8_valid_len}
 use Rattle.xc_elements.specs.Items.{Meaning}
 use Rattle.xc_elements.specs.Documents.{Piece, Cuts, bytes_of, text_of, StopsAt}
-use Rattle.xc_elements.specs.Elements.{is_unbalanced, is_unfinished, is_too_deep, has_no_space, has_same_attribute, nodes_of}
+use Rattle.xc_elements.specs.Namespaces.{Tag, space_under}
+use Rattle.xc_elements.specs.Scopes.{space_in_scope}
+use Rattle.xc_elements.specs.Elements.{begun, tag_in, declared_at, is_unbalanced, is_unfinished, is_too_deep, has_no_space, has_same_attribute, nodes_of}
 use Rattle.xc_elements.specs.declared.nodes.Node.{Node}
 use Rattle.xc_elements.specs.declared.fault.TreeFault.{TreeFault}
 use Rattle.xc_elements.specs.declared.fault.TreeFault.TheVariants.{Memory, NotUtf8, NotItem, Doctype, Unbalanced, TooDeep, NoSpace, SameAttribute}
@@ -107,3 +109,9 @@ TreeOrFault = (bytes : List ℕ) (nodes : List Node) (fault : TreeFault) → IsT
 -- a document has one first fault at most
 abbrev pub OneFirstFault : Type 0
 OneFirstFault = (bytes : List ℕ) (one other : TreeFault) → IsFirstFault bytes one → IsFirstFault bytes other → one ≡ other
+
+-- a prefix stands for the same where the names of a tag are expanded, and at the tag's node: Namespaces in XML 1.0, section 6.1
+abbrev pub OneScope : Type 0
+OneScope = (bytes : List ℕ) (nodes : List Node) (tree : IsTreeOf bytes nodes) (before after : List Meaning) (item : Meaning) (tag : Tag) →
+    meanings tree.pieces ≡ reverse before ++ item ∷ after → tag_in item ≡ Some tag → (prefix : List ℕ) →
+    space_under (declared_at before tag) prefix ≡ space_in_scope nodes (begun before) (encode_utf8_all prefix)

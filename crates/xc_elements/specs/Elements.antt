@@ -3,9 +3,15 @@ use Rattle.std.specs.Prelude.{ℕ, zero, suc, ◌+◌, ◌==◌, ◌&&◌, ◌||
 use Rattle.std.specs.Str.{bytes_eq}
 use Rattle.xc_chars.specs.Characters.{is_space}
 use Rattle.xc_elements.specs.Items.{Name, Meaning, Start, Empty, End, Section, Letter, Reference}
-use Rattle.xc_elements.specs.Namespaces.{Tag, Binding, tag_of, declarations, element_space, expand, tag_lacks_space, has_double}
+use Rattle.xc_elements.specs.Namespaces.{Tag, Binding, tag_of, declarations, declared_by, element_space, expand, tag_lacks_space, has_double}
 use Rattle.xc_elements.specs.declared.nodes.Attribute.{Attribute}
 use Rattle.xc_elements.specs.declared.nodes.Node.{Node}
+
+-- the tag of an item that begins an element
+abbrev pub tag_in : Meaning → Option Tag
+tag_in (Start name pairs) = Some (tag_of name pairs)
+tag_in (Empty name pairs) = Some (tag_of name pairs)
+tag_in item = None
 
 -- ---- what is open at a place
 
@@ -91,6 +97,7 @@ node_at before tag inside text = record {
   space = unwrap_or (element_space (declared_at before tag) tag.name) [];
   local = encode_utf8_all tag.name.local;
   attributes = map (expand (declared_at before tag)) tag.attributes;
+  declared = declared_by tag;
   parent = innermost (open_at before);
   end = suc (begun before) + inside;
   text = encode_utf8_all text;

@@ -3,8 +3,10 @@ use Rattle.std.specs.Prelude.{ℕ, ◌&&◌, ◌||◌, Bool, false, List, [], �
 use Rattle.std.specs.List.{filter_map, list_any}
 use Rattle.std.specs.Str.{bytes_eq}
 use Rattle.xc_elements.specs.Items.{Name, Pair, is_nil, spells}
-use Rattle.xc_elements.specs.Trees.{xml_space, declarations_space, not_empty, value_among}
+use Rattle.xc_elements.specs.Scopes.{not_empty}
+use Rattle.xc_elements.specs.Trees.{xml_space, declarations_space, value_among}
 use Rattle.xc_elements.specs.declared.nodes.Attribute.{Attribute}
+use Rattle.xc_elements.specs.declared.nodes.NamespaceDeclaration.{NamespaceDeclaration}
 
 -- an attribute as it is given: its name as it is written, and its value in UTF-8
 pub record Given : Type 0 where
@@ -46,6 +48,14 @@ declared_prefix name = if declares_prefix name then Some name.local else if decl
 -- what an attribute declares
 abbrev pub binding_of : Given → Option Binding
 binding_of g = option_map (λ prefix. record { prefix = prefix; space = g.value }) (declared_prefix g.name)
+
+-- a declaration as a tree keeps it, by the UTF-8 of its prefix
+abbrev pub declaration_of : Binding → NamespaceDeclaration
+declaration_of b = record { prefix = encode_utf8_all b.prefix; space = b.space }
+
+-- what a tag declares itself, as a tree keeps it: the last first
+abbrev pub declared_by : Tag → List NamespaceDeclaration
+declared_by tag = map declaration_of (reverse (filter_map binding_of tag.attributes))
 
 -- all that is declared by tags, of which each is inside the next: the nearest first
 abbrev pub declarations : List Tag → List Binding

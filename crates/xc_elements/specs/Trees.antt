@@ -1,7 +1,6 @@
--- Trees of elements, and the namespaces that are declared in them.
-use Rattle.std.specs.Prelude.{◌≡◌, ℕ, zero, suc, ◌<◌, ◌&&◌, ◌==◌, Bool, List, [], ◌∷◌, length, Option, Some, None, IsTrue, ◌↔◌, codes, find, slice_get, option_map, option_and_then, if◌then◌else◌}
+-- Trees of elements.
+use Rattle.std.specs.Prelude.{◌≡◌, ℕ, zero, suc, ◌<◌, ◌&&◌, ◌==◌, Bool, List, [], ◌∷◌, length, Option, Some, None, IsTrue, ◌↔◌, codes, find, slice_get, option_map, option_and_then}
 use Rattle.std.specs.List.{list_any}
-use Rattle.std.specs.Option.{option_or}
 use Rattle.std.specs.Str.{bytes_eq}
 use Rattle.xc_chars.specs.Trimmed.{trimmed}
 use Rattle.xc_elements.specs.declared.nodes.Attribute.{Attribute}
@@ -40,7 +39,7 @@ pub record IsTree (nodes : List Node) : Type 0 where
   -- a node's descendants are exactly those after it and before its end
   pub descendants : (node k : ℕ) → k < length nodes → (end : ℕ) → end_of nodes node ≡ Some end → IsTrue (list_any (λ a. a == node) (ancestors nodes k)) ↔ ((node < k) × (k < end))
 
--- ---- attributes and namespaces
+-- ---- names and attributes
 
 -- the namespace of the prefix `xml`: Namespaces in XML 1.0, section 3
 abbrev pub xml_space : List ℕ
@@ -69,20 +68,3 @@ attribute_of nodes node space local = option_and_then (λ n. value_among n.attri
 -- the same without the white space around it
 abbrev pub trimmed_attribute : List Node → ℕ → List ℕ → List ℕ → Option (List ℕ)
 trimmed_attribute nodes node space local = option_map trimmed (attribute_of nodes node space local)
-
--- what the first of these nodes that declares a prefix sets it to
-abbrev pub first_declared : List Node → List ℕ → List ℕ → Option (List ℕ)
-first_declared nodes [] prefix = None
-first_declared nodes (k ∷ ks) prefix = option_or (attribute_of nodes k declarations_space prefix) (first_declared nodes ks prefix)
-
--- an empty value clears what is declared
-abbrev pub not_empty : List ℕ → Option (List ℕ)
-not_empty [] = None
-not_empty (c ∷ cs) = Some (c ∷ cs)
-
--- the namespace of a prefix at a node, and with the empty prefix the default one: what the nearest node on the path to the root that declares it sets it to; Namespaces in XML 1.0, sections 3, 6.1 and 6.2
-abbrev pub space_in_scope : List Node → ℕ → List ℕ → Option (List ℕ)
-space_in_scope nodes node prefix =
-    if bytes_eq prefix (codes "xml") then Some xml_space
-    else if bytes_eq prefix (codes "xmlns") then None
-    else option_and_then not_empty (first_declared nodes (path nodes node) prefix)

@@ -1,16 +1,16 @@
 // Tags, with their names expanded.
-ghost use Rattle.std.specs.Prelude.{◌≡◌, ◌&&◌, ◌||◌, ◌++◌, Bool, false, true, IfOk, IfErr, IsSome, map, reverse, is_none, is_some, encode_utf8_all};
+ghost use Rattle.std.specs.Prelude.{◌≡◌, ◌&&◌, ◌||◌, ◌++◌, [], Bool, false, true, IfOk, IfErr, IsSome, map, reverse, is_none, is_some, encode_utf8_all};
 ghost use Rattle.std.specs.List.{filter_map, cons_option, list_any};
 ghost use Rattle.std.specs.Str.{chars};
 ghost use Rattle.xc_elements.specs.Items.{tag_rest, is_nil};
 ghost use Rattle.xc_elements.specs.Views.{lent, name_view, attribute_view, attributes_at, IsReadable};
-ghost use Rattle.xc_elements.specs.Namespaces.{given, binding_of, element_space, attribute_space, attribute_local, expand, lacks_space, tag_lacks_space, has_double};
+ghost use Rattle.xc_elements.specs.Namespaces.{given, binding_of, declaration_of, declared_by, element_space, attribute_space, attribute_local, expand, lacks_space, tag_lacks_space, has_double};
 ghost use Rattle.xc_elements.specs.Steps.Reading.{tag_view, new_node, IsRefusedTag};
 
 use crate::attributes::WrittenAttribute;
 use crate::doubles::has_double;
 use crate::names::QualifiedName;
-use crate::nodes::{Attribute, Node};
+use crate::nodes::{Attribute, NamespaceDeclaration, Node};
 use crate::refusal::Refusal;
 use crate::scope::{Scope, declared_prefix, declares_default, declares_prefix};
 use crate::tags::{Tag, TagPart, tag_part};
@@ -18,41 +18,53 @@ use crate::texts::copied;
 use std::alloc::{AllocError, Global};
 use xc_lists::{Items, Text};
 
-/// Brings what a tag declares into scope.
+/// Brings what a tag declares into scope, and gives it, the last first.
 pub(crate) fn declare<'a>(
     alloc: Global,
     scope: &mut Scope<'a>,
     tag: Tag<'a>,
-) -> Result<(), AllocError>
+) -> Result<Vec<NamespaceDeclaration>, AllocError>
     requires { IsSome (tag_rest (lent tag.attributes)) }
-    ensures { IfOk result (λ _. scope.new ≡ reverse (filter_map binding_of (map given (attributes_at (lent tag.entry.attributes)))) ++ scope.old) }
+    ensures scope { IfOk result (λ _. scope.new ≡ reverse (filter_map binding_of (map given (attributes_at (lent tag.entry.attributes)))) ++ scope.old) }
+    ensures declared { IfOk result (λ declared. declared.items ≡ declared_by (tag_view tag.entry)) }
 {
+    let mut declared = Vec::new(alloc);
     let mut rest = tag.attributes;
     while let Some((part, after)) = tag_part(rest) {
         match part {
             TagPart::Attribute(attribute) => {
-                declare_one(alloc, scope, attribute)?;
+                declare_one(alloc, scope, &mut declared, attribute)?;
                 rest = after;
             }
-            TagPart::End(_) => return Ok(()),
+            TagPart::End(_) => {
+                declared.as_mut_slice().reverse();
+                return Ok(declared);
+            }
         }
     }
-    Ok(())
+    Ok(declared)
 }
 
-/// Brings what an attribute declares into scope.
+/// Brings what an attribute declares into scope, and adds it to what is declared.
 fn declare_one<'a>(
     alloc: Global,
     scope: &mut Scope<'a>,
+    declared: &mut Vec<NamespaceDeclaration>,
     attribute: WrittenAttribute<'a>,
 ) -> Result<(), AllocError>
     requires { IsReadable attribute.value }
-    ensures { IfOk result (λ _. scope.new ≡ cons_option (binding_of (given (attribute_view attribute.entry))) scope.old) }
+    ensures scope { IfOk result (λ _. scope.new ≡ cons_option (binding_of (given (attribute_view attribute.entry))) scope.old) }
+    ensures declared { IfOk result (λ _. declared.new.items ≡ declared.old.items ++ map declaration_of (cons_option (binding_of (given (attribute_view attribute.entry))) [])) }
 {
-    match declared_prefix(attribute.name) {
-        Some(prefix) => scope.bind(prefix, attribute.value.decoded(alloc)?),
-        None => Ok(()),
-    }
+    let Some(prefix) = declared_prefix(attribute.name) else {
+        return Ok(());
+    };
+    let space = attribute.value.decoded(alloc)?;
+    declared.push(NamespaceDeclaration {
+        prefix: copied(alloc, prefix)?,
+        space: copied(alloc, space.as_str())?,
+    })?;
+    scope.bind(prefix, space)
 }
 
 /// The attributes of a tag by their expanded names.
@@ -153,10 +165,12 @@ pub(crate) fn new_node(
     alloc: Global,
     scope: &Scope,
     tag: Tag,
+    declared: Vec<NamespaceDeclaration>,
     parent: Option<u32>,
     end: u32,
 ) -> Result<Node, Refusal>
-    requires { IsSome (tag_rest (lent tag.attributes)) }
+    requires readable { IsSome (tag_rest (lent tag.attributes)) }
+    requires declared { declared.items ≡ declared_by (tag_view tag) }
     ensures node { IfOk result (λ node. node ≡ new_node scope.now (tag_view tag.entry) parent end) }
     ensures spaced { IfOk result (λ node. tag_lacks_space scope.now (tag_view tag.entry) ≡ false) }
     ensures distinct { IfOk result (λ node. has_double (map (expand scope.now) (tag_view tag.entry).attributes) ≡ false) }
@@ -176,6 +190,7 @@ pub(crate) fn new_node(
         space: copied(alloc, space)?,
         local: copied(alloc, tag.name.local)?,
         attributes: Items::of(expanded.attributes),
+        declared: Items::of(declared),
         parent,
         end,
         text: Text::of(String::new(alloc)),

@@ -1,5 +1,5 @@
 //! Laws of the cut into items, and of trees and faults.
-ghost use Rattle.xc_elements.specs.DocumentTrees.{OneTree, TreeOrFault, OneFirstFault};
+ghost use Rattle.xc_elements.specs.DocumentTrees.{OneTree, OneScope, TreeOrFault, OneFirstFault};
 ghost use Rattle.xc_elements.specs.Documents.{OneCut, OneFault};
 
 /// A text has one cut into items at most.
@@ -15,6 +15,12 @@ pub fn one_fault()
 /// A document has one tree at most: its bytes determine the elements, their names, attributes and texts.
 pub fn one_tree()
     ensures { OneTree }
+{}
+
+/// A prefix stands for the same in the names of a tag and at the tag's node: what `Tree::space_of` answers for a value is what
+/// the document's own names get.
+pub fn one_scope()
+    ensures { OneScope }
 {}
 
 /// A document with a tree has no fault.

@@ -26,7 +26,7 @@ pub use documents::{fault_at, item_fault, text_of};
 pub use fault::{ItemFault, TreeFault};
 pub use items::{Item, item_at};
 pub use names::QualifiedName;
-pub use nodes::{Attribute, Node};
+pub use nodes::{Attribute, NamespaceDeclaration, Node};
 pub use read::read_tree;
 pub use tags::{Tag, TagPart, tag_part};
 pub use trees::{DECLARATIONS_SPACE, Tree, XML_SPACE};

@@ -1,6 +1,7 @@
 // The nodes of trees.
 ghost use Rattle.std.specs.Prelude.{◌≡◌, ◌&&◌, option_map};
 ghost use Rattle.std.specs.Str.{bytes_eq};
+ghost use Rattle.xc_elements.specs.Scopes.{set_by};
 ghost use Rattle.xc_elements.specs.Trees.{is_element, is_named, value_among};
 
 use xc_lists::{Items, Text};
@@ -18,6 +19,15 @@ pub struct Attribute {
     pub value: Text,
 }
 
+/// A declaration of a namespace, by its name as it is written: Namespaces in XML 1.0, section 3.
+#[derive(Debug, Drop)]
+pub struct NamespaceDeclaration {
+    /// Empty where the default namespace is declared.
+    pub prefix: Text,
+    /// The URI, empty where the declaration clears what is declared further out.
+    pub space: Text,
+}
+
 /// An element of a document.
 #[derive(Debug, Drop)]
 pub struct Node {
@@ -26,6 +36,8 @@ pub struct Node {
     pub local: Text,
     /// In the order of the document.
     pub attributes: Items<Attribute>,
+    /// What it declares itself, the last first.
+    pub declared: Items<NamespaceDeclaration>,
     /// The number of the element that it stands directly in.
     pub parent: Option<u32>,
     /// The number behind the last element inside it.
@@ -62,4 +74,14 @@ pub(crate) fn value_among<'a>(
         .iter()
         .find(|attribute| is_named(attribute, space, local))
         .map(|attribute| attribute.value.as_str())
+}
+
+/// What declarations, the last first, set a prefix to.
+pub(crate) fn set_by<'a>(declared: &'a [NamespaceDeclaration], prefix: &str) -> Option<&'a str>
+    ensures { option_map (λ space. space.now) result ≡ set_by declared.now prefix.now }
+{
+    declared
+        .iter()
+        .find(|declaration| declaration.prefix.as_str() == prefix)
+        .map(|declaration| declaration.space.as_str())
 }

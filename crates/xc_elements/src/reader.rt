@@ -92,9 +92,10 @@ impl<'a> Reader<'a> {
         if self.opens.len() >= DEPTH_LIMIT {
             return Err(Refusal::TooDeep);
         }
-        declare(alloc, &mut self.scope, tag)?;
+        let declared = declare(alloc, &mut self.scope, tag)?;
         let end = self.nodes.len() as u32 + 1;
-        new_node(alloc, &self.scope, tag, self.opens.innermost(), end)
+        let parent = self.opens.innermost();
+        new_node(alloc, &self.scope, tag, declared, parent, end)
     }
 
     /// Reads a start tag.

@@ -3,7 +3,7 @@ ghost use Rattle.std.specs.Prelude.{◌≡◌, ◌≤◌, ◌-◌, ◌∷◌, []
 ghost use Rattle.std.specs.Str.{bytes_eq, chars};
 ghost use Rattle.xc_elements.specs.Steps.Bindings.{place_in};
 ghost use Rattle.xc_elements.specs.Namespaces.{Binding, declares_prefix, declares_default, declared_prefix, nearest, space_under, element_space, attribute_space};
-ghost use Rattle.xc_elements.specs.Trees.{not_empty};
+ghost use Rattle.xc_elements.specs.Scopes.{not_empty};
 ghost use Rattle.xc_elements.specs.Views.{lent, name_view};
 
 use crate::names::QualifiedName;

@@ -1,8 +1,9 @@
 // Trees of elements.
 ghost use Rattle.std.specs.Prelude.{◌≡◌, ◌<◌, IfSome, length, option_map, option_and_then};
-ghost use Rattle.xc_elements.specs.Trees.{IsTree, path, parent_of, attribute_of, trimmed_attribute, first_declared, not_empty, space_in_scope};
+ghost use Rattle.xc_elements.specs.Scopes.{first_declared, not_empty, space_in_scope};
+ghost use Rattle.xc_elements.specs.Trees.{IsTree, path, parent_of, attribute_of, trimmed_attribute};
 
-use crate::nodes::{Node, value_among};
+use crate::nodes::{Node, set_by, value_among};
 use std::marker::Model;
 use xc_chars::trimmed;
 use xc_lists::Items;
@@ -131,7 +132,7 @@ fn first_declared<'a>(nodes: &'a [Node], node: u32, prefix: &str) -> Option<&'a 
     let mut at = Some(node);
     while let Some(number) = at {
         let here = &nodes[number as usize];
-        match value_among(here.attributes.as_slice(), DECLARATIONS_SPACE, prefix) {
+        match set_by(here.declared.as_slice(), prefix) {
             Some(space) => return Some(space),
             None => at = here.parent,
         }

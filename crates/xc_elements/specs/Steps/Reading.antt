@@ -3,7 +3,7 @@ use Rattle.std.specs.Prelude.{◌≡◌, ℕ, zero, suc, ◌+◌, ◌&&◌, nat_
 use Rattle.xc_elements.specs.Items.{Meaning}
 use Rattle.xc_elements.specs.Steps.Kept.{Kept, none_kept, innermost_kept}
 use Rattle.xc_elements.specs.Views.{lent, name_view, attributes_at}
-use Rattle.xc_elements.specs.Namespaces.{Binding, Tag, tag_of, declarations, element_space, expand, tag_lacks_space, has_double}
+use Rattle.xc_elements.specs.Namespaces.{Binding, Tag, tag_of, declarations, declared_by, element_space, expand, tag_lacks_space, has_double}
 use Rattle.xc_elements.specs.Elements.{begun, Open, open_at, begun_inside, is_return, text_inside, nodes_from, nodes_of, is_unbalanced, is_too_deep, has_no_space, has_same_attribute}
 use Rattle.xc_elements.specs.declared.nodes.Node.{Node}
 use Rattle.xc_elements.specs.declared.reader.Reader.{Reader}
@@ -21,7 +21,7 @@ AreOpen (k ∷ ks) (o ∷ os) = (k.number ≡ o.number) × (k.name ≡ o.tag.nam
 -- nodes, of which one has ended
 abbrev pub ended : ℕ → ℕ → List ℕ → List Node → List Node
 ended number end text [] = []
-ended zero end text (n ∷ ns) = record { space = n.space; local = n.local; attributes = n.attributes; parent = n.parent; end = end; text = text } ∷ ns
+ended zero end text (n ∷ ns) = record { space = n.space; local = n.local; attributes = n.attributes; declared = n.declared; parent = n.parent; end = end; text = text } ∷ ns
 ended (suc number) end text (n ∷ ns) = n ∷ ended number end text ns
 
 -- the nodes that have been made, when the open elements have ended: these items follow
@@ -57,7 +57,7 @@ tag_view tag = tag_of (name_view tag.name) (attributes_at (lent tag.attributes))
 
 -- the node of a tag with these declarations in scope, before anything inside it
 abbrev pub new_node : List Binding → Tag → Option ℕ → ℕ → Node
-new_node scope tag parent end = record { space = unwrap_or (element_space scope tag.name) []; local = encode_utf8_all tag.name.local; attributes = map (expand scope) tag.attributes; parent = parent; end = end; text = [] }
+new_node scope tag parent end = record { space = unwrap_or (element_space scope tag.name) []; local = encode_utf8_all tag.name.local; attributes = map (expand scope) tag.attributes; declared = declared_by tag; parent = parent; end = end; text = [] }
 
 -- a tag that is refused for its names
 abbrev pub IsRefusedTag : List Binding → Tag → Refusal → Type 0

@@ -321,11 +321,11 @@ record Marked (mark text a rest : List ℕ) : Type 0 where
   pub whole : text ≡ piece ++ rest
   pub again : (more : List ℕ) → up_to mark (piece ++ more) ≡ Some (a, more)
 
-none_from_is_some : {A : Type 0} (o : Option A) → is_some o ≡ false → o ≡ None
+pub none_from_is_some : {A : Type 0} (o : Option A) → is_some o ≡ false → o ≡ None
 none_from_is_some None e = refl
 none_from_is_some (Some x) e = absurd cc
 
-marked_here : (mark more : List ℕ) → 0 < length mark → up_to mark (mark ++ more) ≡ Some ([], more)
+pub marked_here : (mark more : List ℕ) → 0 < length mark → up_to mark (mark ++ more) ≡ Some ([], more)
 unfolding up_to
 marked_here [] more some = absurd (omega arith)
 marked_here (w ∷ ws) more some = rw (exactly_again (w ∷ ws) more) refl

@@ -27,3 +27,4 @@ pub mod DocumentLaws
 pub mod GatherLaws
 pub mod TreeLaws
 pub mod NearestLaws
+pub mod Grammar

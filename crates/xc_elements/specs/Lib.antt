@@ -9,4 +9,5 @@ pub mod Elements
 pub mod Faults
 pub mod DocumentTrees
 pub mod Codes
+pub mod Grammar
 pub mod Steps

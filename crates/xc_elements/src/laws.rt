@@ -1,6 +1,10 @@
 //! Laws of the cut into items, and of trees and faults.
 ghost use Rattle.xc_elements.specs.DocumentTrees.{OneTree, OneScope, TreeOrFault, OneFirstFault};
 ghost use Rattle.xc_elements.specs.Documents.{OneCut, OneFault};
+ghost use Rattle.xc_elements.specs.Grammar.Comments.{CommentsAsSpelled};
+ghost use Rattle.xc_elements.specs.Grammar.EndTags.{EndTagsAsSpelled};
+ghost use Rattle.xc_elements.specs.Grammar.Letters.{LettersAsSpelled};
+ghost use Rattle.xc_elements.specs.Grammar.Sections.{SectionsAsSpelled};
 
 /// A text has one cut into items at most.
 pub fn one_cut()
@@ -31,4 +35,24 @@ pub fn tree_or_fault()
 /// A document has one first fault at most.
 pub fn one_first_fault()
     ensures { OneFirstFault }
+{}
+
+/// An item is a comment exactly where the text begins with `<!--`, characters without `--` that do not end in `-`, and `-->`.
+pub fn comments_as_spelled()
+    ensures { CommentsAsSpelled }
+{}
+
+/// An item is a section of some characters exactly where the text begins with `<![CDATA[`, these characters, without `]]>`, and `]]>`.
+pub fn sections_as_spelled()
+    ensures { SectionsAsSpelled }
+{}
+
+/// An item is the end tag of a name exactly where the text begins with `</`, this name, white space or none, and `>`.
+pub fn end_tags_as_spelled()
+    ensures { EndTagsAsSpelled }
+{}
+
+/// An item is a letter exactly where the text begins with this character, which is neither `<` nor `&`.
+pub fn letters_as_spelled()
+    ensures { LettersAsSpelled }
 {}

@@ -1,0 +1,9 @@
+-- The cut into items keeps to each row of the grammar.
+pub mod Marks
+pub mod Shapes
+pub mod Kinds
+pub mod Comments
+pub mod Sections
+pub mod Names
+pub mod EndTags
+pub mod Letters

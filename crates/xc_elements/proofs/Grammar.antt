@@ -7,3 +7,6 @@ pub mod Sections
 pub mod Names
 pub mod EndTags
 pub mod Letters
+pub mod Spelling
+pub mod Instructions
+pub mod References

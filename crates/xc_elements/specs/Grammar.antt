@@ -2,5 +2,7 @@
 pub mod Words
 pub mod Comments
 pub mod Sections
+pub mod Instructions
 pub mod EndTags
 pub mod Letters
+pub mod References

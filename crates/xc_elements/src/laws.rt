@@ -3,7 +3,9 @@ ghost use Rattle.xc_elements.specs.DocumentTrees.{OneTree, OneScope, TreeOrFault
 ghost use Rattle.xc_elements.specs.Documents.{OneCut, OneFault};
 ghost use Rattle.xc_elements.specs.Grammar.Comments.{CommentsAsSpelled};
 ghost use Rattle.xc_elements.specs.Grammar.EndTags.{EndTagsAsSpelled};
+ghost use Rattle.xc_elements.specs.Grammar.Instructions.{InstructionsAsSpelled};
 ghost use Rattle.xc_elements.specs.Grammar.Letters.{LettersAsSpelled};
+ghost use Rattle.xc_elements.specs.Grammar.References.{ReferencesAsSpelled};
 ghost use Rattle.xc_elements.specs.Grammar.Sections.{SectionsAsSpelled};
 
 /// A text has one cut into items at most.
@@ -55,4 +57,16 @@ pub fn end_tags_as_spelled()
 /// An item is a letter exactly where the text begins with this character, which is neither `<` nor `&`.
 pub fn letters_as_spelled()
     ensures { LettersAsSpelled }
+{}
+
+/// An item is an instruction exactly where the text begins with `<?`, a name that is not `xml` in any case, nothing or white space
+/// and characters without `?>`, and `?>`.
+pub fn instructions_as_spelled()
+    ensures { InstructionsAsSpelled }
+{}
+
+/// An item is a reference to a character exactly where the text begins with `&`, one of the five names or the number of this
+/// character, and `;`.
+pub fn references_as_spelled()
+    ensures { ReferencesAsSpelled }
 {}

@@ -51,7 +51,7 @@ tag_kind text m rest e =
     let same = same_answer (cond u.0.0.1 (Empty s.0.0 u.0.0.0) (Start s.0.0 u.0.0.0)) m u.0.1 rest u.2 in
     subst (λ n. (kind n ≡ 1) ⊎ (kind n ≡ 2)) same.0 (which_tag u.0.0.1 s.0.0 u.0.0.0)
 
-declaration_kind : (text : List ℕ) (m : Meaning) (rest : List ℕ) → declaration text ≡ Some (m, rest) → kind m ≡ 0
+pub declaration_kind : (text : List ℕ) (m : Meaning) (rest : List ℕ) → declaration text ≡ Some (m, rest) → kind m ≡ 0
 unfolding declaration followed_by give
 declaration_kind text m rest e =
     let s = split (sequence part_turn text) (λ _. give Declaration) (m, rest) e in

@@ -10,3 +10,7 @@ pub mod Letters
 pub mod Spelling
 pub mod Instructions
 pub mod References
+pub mod Sequences
+pub mod Values
+pub mod Attributes
+pub mod Tags

@@ -33,7 +33,7 @@ line_end_peeks : Peeks line_end
 unfolding line_end
 line_end_peeks = by_next_peeks (λ c. if_peeks _ (past_peeks (give_peeks _)) (give_peeks _))
 
-line_end_goes_on : GoesOn line_end
+pub line_end_goes_on : GoesOn line_end
 unfolding line_end
 line_end_goes_on = by_next_goes_on (λ c. if_goes_on _ (past_goes_on (give_goes_on 32)) (give_goes_on 32))
 

@@ -6,3 +6,6 @@ pub mod Instructions
 pub mod EndTags
 pub mod Letters
 pub mod References
+pub mod Values
+pub mod Attributes
+pub mod Tags

@@ -7,6 +7,9 @@ ghost use Rattle.xc_elements.specs.Grammar.Instructions.{InstructionsAsSpelled};
 ghost use Rattle.xc_elements.specs.Grammar.Letters.{LettersAsSpelled};
 ghost use Rattle.xc_elements.specs.Grammar.References.{ReferencesAsSpelled};
 ghost use Rattle.xc_elements.specs.Grammar.Sections.{SectionsAsSpelled};
+ghost use Rattle.xc_elements.specs.Grammar.Attributes.{AttributesAsSpelled};
+ghost use Rattle.xc_elements.specs.Grammar.Tags.{EmptyTagsAsSpelled, StartTagsAsSpelled};
+ghost use Rattle.xc_elements.specs.Grammar.Values.{ValuesAsSpelled};
 
 /// A text has one cut into items at most.
 pub fn one_cut()
@@ -69,4 +72,26 @@ pub fn instructions_as_spelled()
 /// character, and `;`.
 pub fn references_as_spelled()
     ensures { ReferencesAsSpelled }
+{}
+
+/// The value up to a quote is this one exactly where the text begins with what is written for it, and the quote.
+pub fn values_as_spelled()
+    ensures { ValuesAsSpelled }
+{}
+
+/// An attribute is a name with a value exactly where the text begins with the name, `=` with white space or none around it, and
+/// what is written for the value between quotes.
+pub fn attributes_as_spelled()
+    ensures { AttributesAsSpelled }
+{}
+
+/// An item is the start tag of a name with some attributes exactly where the text begins with `<`, this name, these attributes
+/// with white space before each, white space or none, and `>`.
+pub fn start_tags_as_spelled()
+    ensures { StartTagsAsSpelled }
+{}
+
+/// An item is the tag of an empty element exactly where the same stands with `/>` at its end.
+pub fn empty_tags_as_spelled()
+    ensures { EmptyTagsAsSpelled }
 {}

@@ -9,4 +9,5 @@ pub mod Owning
 mod PointPlaces
 mod RolesInOrder
 pub mod Placing
+mod TotalPoints
 pub mod Solving

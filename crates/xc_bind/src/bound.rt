@@ -2,9 +2,11 @@
 ghost use Rattle.std.specs.Prelude.{◌≡◌, ◌<◌, ◌≤◌, ◌*◌, ◌+◌, ◌++◌, ◌^◌, length, All, IfOk, OnOk};
 ghost use Rattle.xc_bind.specs.Bindings.{term_of, terms_of, binding_of, bindings_in, bindings_of};
 ghost use Rattle.xc_bind.specs.Placed.{IsOfNetworks, IsPlaced};
+ghost use Rattle.xc_bind.specs.Steps.Totals.{binding_at};
 
 use crate::arcs_from::ArcsFrom;
 use crate::point_index::PointIndex;
+use crate::totals::totals_of;
 use crate::types::{Binding, Term};
 use std::alloc::Global;
 use xc_calc::{Arc, Network};
@@ -49,15 +51,32 @@ fn add_network(
     ensures { OnOk result (list.new.items ≡ list.old.items ++ bindings_in points.now (at, network.now)) }
 {
     let arcs = ArcsFrom::of(alloc, network.arcs.as_slice())?;
-    for (number, total) in points.points().iter().enumerate() {
-        if let Some(binding) = binding_of(alloc, points, &arcs, at as u32, number as u32, total)? {
+    let totals = totals_of(alloc, points, network.arcs.as_slice())?;
+    for number in &totals {
+        if let Some(binding) = binding_at(alloc, points, &arcs, at as u32, *number)? {
             list.push(binding)?;
         }
     }
     Ok(())
 }
 
-// The binding of a point in a network, where a contributor is reported beside it.
+// The binding in a network of the point with this number, where a contributor is reported beside it.
+fn binding_at(
+    alloc: Global,
+    points: &PointIndex<'_>,
+    arcs: &ArcsFrom<'_>,
+    network: u32,
+    number: usize,
+) -> Result<Option<Binding>, Memory>
+    requires few { length points.now < 2 ^ 32 }
+    requires inside { number < length points.now }
+    ensures { IfOk result (λ binding. binding ≡ binding_at points.now network arcs.now number) }
+{
+    let total = &points.points()[number];
+    binding_of(alloc, points, arcs, network, number as u32, total)
+}
+
+// The binding of a point with this number.
 fn binding_of(
     alloc: Global,
     points: &PointIndex<'_>,

@@ -8,6 +8,7 @@ pub mod laws;
 mod point_index;
 #[cfg(test)]
 mod tests;
+mod totals;
 mod types;
 
 pub use bound::bindings;

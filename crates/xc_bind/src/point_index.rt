@@ -1,24 +1,29 @@
-// Points that are found by concept and key.
+// Points that are found by concept and key, and by concept alone.
 ghost use Rattle.std.specs.Prelude.{◌≡◌, ◌<◌, ◌^◌, length, map, IfOk};
 ghost use Rattle.xc_bind.specs.Bindings.{number_of};
+ghost use Rattle.xc_bind.specs.Steps.Numbered.{AreNumbered, numbers_of};
 ghost use Rattle.xc_bind.specs.Steps.Places.{place_at};
 ghost use Rattle.xc_points.specs.Places.{place_of};
 
 use std::alloc::Global;
+use std::collections::BTreeMap;
 use std::marker::Model;
 use xc_lists::{Firsts, Memory};
 use xc_names::NameId;
 use xc_points::{Place, Point};
 
-/// Points, of which one is found by its concept and key without going through them.
+/// Points, of which one is found by its concept and key, and those of a concept by the concept, without going
+/// through the others.
 #[derive(Drop)]
 pub(crate) struct PointIndex<'a> {
     points: &'a [Point],
     places: Firsts<Place>,
+    numbers: BTreeMap<u64, Vec<usize>>,
 }
 
 impl<'a> Model for PointIndex<'a> {
     ghost use Rattle.std.specs.Prelude.{◌≡◌, List, map};
+    ghost use Rattle.xc_bind.specs.Steps.Numbered.{AreNumbered};
     ghost use Rattle.xc_points.specs.Places.{place_of};
     ghost use Rattle.xc_points.specs.declared.types.Point.{Point};
 
@@ -26,7 +31,8 @@ impl<'a> Model for PointIndex<'a> {
 
     ghost view = { λ index. index.points.now };
 
-    ghost invariant = { λ index. index.places ≡ map place_of index.points.now };
+    ghost invariant = { λ index. (index.places ≡ map place_of index.points.now)
+        × AreNumbered index.numbers index.points.now };
 }
 
 impl<'a> PointIndex<'a> {
@@ -35,7 +41,12 @@ impl<'a> PointIndex<'a> {
         ensures { IfOk result (λ index. index ≡ points.now) }
     {
         let places = Firsts::of(alloc, places_of(alloc, points)?)?;
-        Ok(PointIndex { points, places })
+        let numbers = numbers_by_concept(alloc, points)?;
+        Ok(PointIndex {
+            points,
+            places,
+            numbers,
+        })
     }
 
     /// The points.
@@ -53,6 +64,16 @@ impl<'a> PointIndex<'a> {
         match self.places.first(&place_at(concept, key)) {
             Some(place) => Some(place as u32),
             None => None,
+        }
+    }
+
+    /// The numbers of the points of this concept, ascending.
+    pub(crate) fn numbers_of(&self, concept: NameId) -> &[usize]
+        ensures { result.now ≡ numbers_of self.now concept }
+    {
+        match self.numbers.get(&concept.0) {
+            Some(numbers) => numbers.as_slice(),
+            None => &[],
         }
     }
 }
@@ -73,4 +94,18 @@ fn places_of(alloc: Global, points: &[Point]) -> Result<Vec<Place>, Memory>
         places.push(point.place())?;
     }
     Ok(places)
+}
+
+// The numbers of the points by their concepts.
+fn numbers_by_concept(alloc: Global, points: &[Point]) -> Result<BTreeMap<u64, Vec<usize>>, Memory>
+    ensures { IfOk result (λ numbers. AreNumbered numbers points.now) }
+{
+    let mut numbers: BTreeMap<u64, Vec<usize>> = BTreeMap::new(alloc);
+    for (number, point) in points.iter().enumerate() {
+        numbers
+            .entry(point.concept.0)?
+            .or_insert(Vec::new(alloc))
+            .push(number)?;
+    }
+    Ok(numbers)
 }

@@ -10,7 +10,7 @@ overflow_cast-result c =
     let points = c.self.inside.points.now in
     let number : number_of points c.args.concept c.args.key ≡ Some c.in-Some.place =
     sym (number_is points c.args.concept c.args.key)
-    ∙ ap (first_equal place_cmp (place_at c.args.concept c.args.key)) (sym c.self.invariant)
+    ∙ ap (first_equal place_cmp (place_at c.args.concept c.args.key)) (sym c.self.invariant.0)
     ∙ ap (λ place. first_equal place_cmp place c.self.inside.places) (sym c.place_at.ensures)
     ∙ sym c.first.ensures
     ∙ c.in-Some.is in
@@ -22,7 +22,7 @@ returns-in-Some c =
     sym c.in-Some.is
     ∙ c.first.ensures
     ∙ ap (λ place. first_equal place_cmp place c.self.inside.places) c.place_at.ensures
-    ∙ ap (first_equal place_cmp (place_at c.args.concept c.args.key)) c.self.invariant
+    ∙ ap (first_equal place_cmp (place_at c.args.concept c.args.key)) c.self.invariant.0
     ∙ number_is c.self.inside.points.now c.args.concept c.args.key
     ∙ ap (λ points. number_of points c.args.concept c.args.key) c.self.view_is
 
@@ -31,6 +31,6 @@ returns-in-None c =
     sym c.in-None.is
     ∙ c.first.ensures
     ∙ ap (λ place. first_equal place_cmp place c.self.inside.places) c.place_at.ensures
-    ∙ ap (first_equal place_cmp (place_at c.args.concept c.args.key)) c.self.invariant
+    ∙ ap (first_equal place_cmp (place_at c.args.concept c.args.key)) c.self.invariant.0
     ∙ number_is c.self.inside.points.now c.args.concept c.args.key
     ∙ ap (λ points. number_of points c.args.concept c.args.key) c.self.view_is

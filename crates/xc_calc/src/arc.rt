@@ -1,3 +1,6 @@
+ghost use Rattle.std.specs.Prelude.{◌≡◌};
+
+use crate::shared::Shared;
 use xc_decimal::Decimal;
 use xc_elements::Attribute;
 use xc_lists::{Items, Text};
@@ -43,12 +46,28 @@ pub enum Use {
 /// An arc as a linkbase has it, whether or not it is effective.
 #[derive(Debug, Drop)]
 pub struct ListedArc {
-    /// The role of its extended link.
-    pub role: Text,
+    /// The role of its extended link, shared by all arcs of its element.
+    pub role: Shared<Text>,
     pub arc: Arc,
     pub order: Decimal,
-    /// The attributes of its element that are compared as texts where arcs are compared.
-    pub others: Items<Attribute>,
+    /// The attributes of its element that are compared as texts where arcs are compared, shared by all its arcs.
+    pub others: Shared<Items<Attribute>>,
     pub priority: i64,
     pub usage: Use,
+}
+
+impl ListedArc {
+    /// Its role, as a text that is lent.
+    pub fn role(&self) -> &str
+        ensures { result.now ≡ self.now.role }
+    {
+        self.role.value().as_str()
+    }
+
+    /// Its other attributes, as a list that is lent.
+    pub fn others(&self) -> &[Attribute]
+        ensures { result.now ≡ self.now.others }
+    {
+        self.others.value().as_slice()
+    }
 }

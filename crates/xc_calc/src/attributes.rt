@@ -128,14 +128,3 @@ pub(crate) fn others_at(alloc: Global, tree: &Tree, at: u32) -> Result<Vec<Attri
 {
     others(alloc, tree.nodes()[at as usize].attributes.as_slice())
 }
-
-/// The same attributes in memory of their own.
-pub(crate) fn copies(alloc: Global, attributes: &[Attribute]) -> Result<Vec<Attribute>, Memory>
-    ensures { IfOk result (λ copies. copies.items ≡ attributes.now) }
-{
-    let mut copies = Vec::new(alloc);
-    for attribute in attributes {
-        copies.push(copied(attribute)?)?;
-    }
-    Ok(copies)
-}

@@ -9,6 +9,7 @@ use crate::arc::Use;
 use crate::attributes::{order_at, others_at, priority_at, use_at, weight_at};
 use crate::elements::role_at;
 use crate::fault::LinkFault;
+use crate::shared::Shared;
 use std::alloc::Global;
 use xc_decimal::Decimal;
 use xc_elements::{Attribute, Tree};
@@ -17,10 +18,10 @@ use xc_lists::{Items, Memory, Text};
 /// What an arc element says of each of its arcs.
 #[derive(Drop)]
 pub(crate) struct Drawn {
-    pub role: Text,
+    pub role: Shared<Text>,
     pub weight: Decimal,
     pub order: Decimal,
-    pub others: Items<Attribute>,
+    pub others: Shared<Items<Attribute>>,
     pub priority: i64,
     pub usage: Use,
 }
@@ -66,10 +67,10 @@ pub(crate) fn drawn_at(alloc: Global, tree: &Tree, at: u32) -> Result<Drawn, Lin
         return Err(LinkFault::BadUse(at));
     };
     Ok(Drawn {
-        role: role_around(alloc, tree, at)?,
+        role: Shared::of(alloc, role_around(alloc, tree, at)?)?,
         weight,
         order,
-        others: Items::of(others_at(alloc, tree, at)?),
+        others: Shared::of(alloc, Items::of(others_at(alloc, tree, at)?))?,
         priority,
         usage,
     })

@@ -67,10 +67,10 @@ fn is_equivalent(a: &ListedArc, b: &ListedArc) -> bool
 {
     a.arc.from.0 == b.arc.from.0
         && a.arc.to.0 == b.arc.to.0
-        && a.role == b.role
+        && a.role() == b.role()
         && is_same_number(a.arc.weight, b.arc.weight)
         && is_same_number(a.order, b.order)
-        && are_same(a.others.as_slice(), b.others.as_slice())
+        && are_same(a.others(), b.others())
 }
 
 fn is_prohibited(usage: Use) -> bool
@@ -136,7 +136,7 @@ fn common_of(a: &ListedArc) -> Common<'_>
     Common {
         from: a.arc.from,
         to: a.arc.to,
-        role: a.role.as_str(),
+        role: a.role(),
         weight: number_of(a.arc.weight),
         order: number_of(a.order),
     }

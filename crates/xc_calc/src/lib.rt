@@ -15,9 +15,11 @@ pub mod laws;
 mod linked;
 mod locators;
 mod networks;
+mod shared;
 mod wanted;
 
 pub use arc::{Arc, ArcKind, ListedArc, Network, Use};
 pub use arcs::Arcs;
 pub use elements::is_linkbase;
 pub use fault::LinkFault;
+pub use shared::Shared;

@@ -8,7 +8,6 @@ ghost use Rattle.xc_calc.specs.Steps.{drawn_view};
 ghost use Rattle.xc_lists.specs.Places.{first_given};
 
 use crate::arc::{Arc, ArcKind, ListedArc};
-use crate::attributes::copies;
 use crate::drawn::{Drawn, drawn_at};
 use crate::elements::is_chosen;
 use crate::ends::{end_at, located};
@@ -17,7 +16,7 @@ use crate::locators::Locators;
 use std::alloc::Global;
 use xc_concepts::{Concepts, Kind};
 use xc_elements::Tree;
-use xc_lists::{Items, Memory};
+use xc_lists::Memory;
 use xc_names::NameId;
 
 // The fault of a locator whose concept has this kind.
@@ -67,18 +66,18 @@ fn concepts_at(
 }
 
 // The arc of an arc element between two concepts.
-fn arc_between(alloc: Global, drawn: &Drawn, from: NameId, to: NameId) -> Result<ListedArc, Memory>
+fn arc_between(drawn: &Drawn, from: NameId, to: NameId) -> Result<ListedArc, Memory>
     ensures { IfOk result (λ arc. arc ≡ arc_between (drawn_view drawn.now) from to) }
 {
     Ok(ListedArc {
-        role: drawn.role.copy()?,
+        role: drawn.role.share()?,
         arc: Arc {
             from,
             to,
             weight: drawn.weight,
         },
         order: drawn.order,
-        others: Items::of(copies(alloc, drawn.others.as_slice())?),
+        others: drawn.others.share()?,
         priority: drawn.priority,
         usage: drawn.usage,
     })
@@ -86,7 +85,6 @@ fn arc_between(alloc: Global, drawn: &Drawn, from: NameId, to: NameId) -> Result
 
 // Puts the arcs from one concept at the end of a list.
 fn add_from(
-    alloc: Global,
     arcs: &mut Vec<ListedArc>,
     drawn: &Drawn,
     from: NameId,
@@ -95,14 +93,13 @@ fn add_from(
     ensures { OnOk result (arcs.new.items ≡ arcs.old.items ++ map (arc_between (drawn_view drawn.now) from) to.now) }
 {
     for target in to {
-        arcs.push(arc_between(alloc, drawn, from, *target)?)?;
+        arcs.push(arc_between(drawn, from, *target)?)?;
     }
     Ok(())
 }
 
 // Puts the arcs of an arc element at the end of a list, source by source.
 fn add_between(
-    alloc: Global,
     arcs: &mut Vec<ListedArc>,
     drawn: &Drawn,
     from: &[NameId],
@@ -111,7 +108,7 @@ fn add_between(
     ensures { OnOk result (arcs.new.items ≡ arcs.old.items ++ arcs_between (drawn_view drawn.now) from.now to.now) }
 {
     for source in from {
-        add_from(alloc, arcs, drawn, *source, to)?;
+        add_from(arcs, drawn, *source, to)?;
     }
     Ok(())
 }
@@ -156,7 +153,7 @@ fn add_element<'a>(
     let (sources, targets) = ends_at(found, tree, at)?;
     let from = concepts_at(alloc, tree, concepts, sources)?;
     let to = concepts_at(alloc, tree, concepts, targets)?;
-    add_between(alloc, arcs, &drawn, from.as_slice(), to.as_slice())?;
+    add_between(arcs, &drawn, from.as_slice(), to.as_slice())?;
     Ok(())
 }
 

@@ -22,7 +22,7 @@ pub(crate) fn roles_of<'a>(
 {
     let mut roles = BTreeSet::new(alloc);
     for arc in arcs {
-        roles.insert(arc.role.as_str())?;
+        roles.insert(arc.role())?;
     }
     Ok(roles)
 }
@@ -35,7 +35,7 @@ fn put_arc<'a>(
 ) -> Result<(), Memory>
     ensures { OnOk result ((arcs : List ListedArc) → AreByRole lists.old arcs → AreByRole lists.new (arcs ++ listed.now ∷ [])) }
 {
-    put_last(alloc, lists, listed.role.as_str(), listed.arc)?;
+    put_last(alloc, lists, listed.role(), listed.arc)?;
     Ok(())
 }
 

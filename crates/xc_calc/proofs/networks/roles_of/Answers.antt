@@ -11,8 +11,8 @@ loop-arc-preserved c = λ role.
     let old = c.loop-arc.roles.keys in
     let rest = some_role (map (λ a. a.now) (drop (c.loop-arc.arc-index + 1) arcs)) role in
     ap (λ ks. has_text ks role || rest) c.in_ok-insert.ensures.keys
-    ∙ ap (λ b. b || rest) (role_noted old c.as_str.result role)
-    ∙ or_along (has_text old role) (bytes_eq role c.as_str.result.now) rest
-    ∙ ap (λ t. has_text old role || (bytes_eq role t || rest)) c.as_str.ensures
+    ∙ ap (λ b. b || rest) (role_noted old c.role.result role)
+    ∙ or_along (has_text old role) (bytes_eq role c.role.result.now) rest
+    ∙ ap (λ t. has_text old role || (bytes_eq role t || rest)) c.role.ensures
     ∙ ap (λ b. has_text old role || b) (sym (role_step arcs c.loop-arc.arc-index c.arc-item.result c.loop-arc-test.true c.arc-item.is role))
     ∙ c.loop-arc.invariant role

@@ -75,8 +75,8 @@ def document(kind, lines):
         return linkbase(lines).encode()
     if kind == "schema":
         return SCHEMA.encode()
-    if kind == "long":
-        return b" " * LONG
+    if kind in ("long", "longest"):
+        return b" " * (LONG if kind == "long" else LONG - 1)
     raise ValueError(f"no part of a case is called {kind!r}")
 
 

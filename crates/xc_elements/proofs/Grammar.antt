@@ -14,3 +14,4 @@ pub mod Sequences
 pub mod Values
 pub mod Attributes
 pub mod Tags
+pub mod Declarations

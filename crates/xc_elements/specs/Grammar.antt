@@ -9,3 +9,4 @@ pub mod References
 pub mod Values
 pub mod Attributes
 pub mod Tags
+pub mod Declarations

@@ -2,6 +2,7 @@
 ghost use Rattle.xc_elements.specs.DocumentTrees.{OneTree, OneScope, TreeOrFault, OneFirstFault};
 ghost use Rattle.xc_elements.specs.Documents.{OneCut, OneFault};
 ghost use Rattle.xc_elements.specs.Grammar.Comments.{CommentsAsSpelled};
+ghost use Rattle.xc_elements.specs.Grammar.Declarations.{DeclarationsAsSpelled};
 ghost use Rattle.xc_elements.specs.Grammar.EndTags.{EndTagsAsSpelled};
 ghost use Rattle.xc_elements.specs.Grammar.Instructions.{InstructionsAsSpelled};
 ghost use Rattle.xc_elements.specs.Grammar.Letters.{LettersAsSpelled};
@@ -94,4 +95,10 @@ pub fn start_tags_as_spelled()
 /// An item is the tag of an empty element exactly where the same stands with `/>` at its end.
 pub fn empty_tags_as_spelled()
     ensures { EmptyTagsAsSpelled }
+{}
+
+/// An item is the declaration exactly where it is the first of its document and the text begins with `<?xml`, any number of parts
+/// with white space before each, white space or none, and `?>`.
+pub fn declarations_as_spelled()
+    ensures { DeclarationsAsSpelled }
 {}

@@ -57,7 +57,7 @@ declaration_kind text m rest e =
     let s = split (sequence part_turn text) (λ _. give Declaration) (m, rest) e in
     ap kind (sym (same_answer Declaration m s.0.1 rest s.2).0)
 
-instruction_rest_kind : (text : List ℕ) (m : Meaning) (rest : List ℕ) → instruction_rest text ≡ Some (m, rest) → kind m ≡ 5
+pub instruction_rest_kind : (text : List ℕ) (m : Meaning) (rest : List ℕ) → instruction_rest text ≡ Some (m, rest) → kind m ≡ 5
 unfolding instruction_rest by_next one followed_by give
 instruction_rest_kind [] m rest e = absurd cc
 instruction_rest_kind (c ∷ cs) m rest e =

@@ -39,10 +39,10 @@ ends b = Last b
 abbrev pub pairs_on : Pair → Turn Pair Bool
 pairs_on p = More p
 
-not_nil : (spaces : List ℕ) → is_nil spaces ≡ false → spaces ≢ []
+pub not_nil : (spaces : List ℕ) → is_nil spaces ≡ false → spaces ≢ []
 not_nil spaces h e = let on = ap is_nil e in let clash : true ≡ false = sym on ∙ h in absurd (let two = clash in cc)
 
-nil_not : (spaces : List ℕ) → spaces ≢ [] → is_nil spaces ≡ false
+pub nil_not : (spaces : List ℕ) → spaces ≢ [] → is_nil spaces ≡ false
 nil_not [] h = absurd (h refl)
 nil_not (c ∷ cs) h = refl
 

@@ -1,7 +1,7 @@
 -- A prefix stands for the same at a tag and at the tag's node.
 use lib.Utf8.{encode}
-use Rattle.std.proofs.Common.{◌≡◌, ℕ, zero, suc, ◌+◌, ◌<◌, ◌≤◌, Bool, true, false, cond, List, [], ◌∷◌, ◌++◌, length, Option, Some, None, refl, sym, ap, subst, ◌∙◌, append-nil, arith}
-use Rattle.std.specs.Prelude.{map, reverse, codes, slice_get, option_and_then, encode_utf8_all, if◌then◌else◌}
+use Rattle.std.proofs.Common.{◌≡◌, ℕ, zero, suc, ◌+◌, ◌<◌, ◌≤◌, Bool, true, false, cond, List, [], ◌∷◌, ◌++◌, length, Option, Some, None, refl, sym, ap, ◌∙◌, append-nil, arith}
+use Rattle.std.specs.Prelude.{map, reverse, codes, slice_get, option_and_then, encode_utf8_all}
 use Rattle.std.specs.List.{filter_map}
 use Rattle.std.specs.Option.{option_or}
 use Rattle.std.specs.Str.{bytes_eq}
@@ -13,14 +13,15 @@ use Rattle.xc_elements.specs.Items.{Meaning, Declaration, Start, Empty, End, Com
 use Rattle.xc_elements.specs.Namespaces.{Binding, Tag, tag_of, binding_of, declaration_of, declared_by, declarations, nearest, space_under}
 use Rattle.xc_elements.specs.Elements.{begun, Open, open_at, open_behind, tag_in, declared_at, nodes_from, nodes_of}
 use Rattle.xc_elements.specs.Trees.{xml_space, parent_of, upward, path}
-use Rattle.xc_elements.specs.Scopes.{set_by, set_at, first_declared, not_empty, space_in_scope}
+use Rattle.xc_elements.specs.Declarations.{set_by}
+use Rattle.xc_elements.specs.Scopes.{set_at, first_declared, not_empty, space_in_scope}
 use Rattle.xc_elements.specs.Steps.Reading.{whole}
 use Rattle.xc_elements.specs.declared.nodes.NamespaceDeclaration.{NamespaceDeclaration}
 use Rattle.xc_elements.specs.declared.nodes.Node.{Node}
 use Rattle.xc_elements.proofs.FrontLaws.{exactly_whole, exactly_again}
 use Rattle.xc_elements.proofs.ScopeLaws.{by_first}
 use Rattle.xc_elements.proofs.KeptLaws.{tags_of}
-use Rattle.xc_elements.proofs.LineageLaws.{numbers, first_of, lineage, some_same, open_few}
+use Rattle.xc_elements.proofs.LineageLaws.{numbers, first_of, lineage, open_few}
 use Rattle.xc_elements.proofs.ShapeLaws.{AreLinked, parents, lineage_behind, linked, climb, add_zero, add_suc, zero_add}
 
 -- ---- prefixes by their characters and by their UTF-8

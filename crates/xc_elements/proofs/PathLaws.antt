@@ -4,7 +4,8 @@ use Rattle.std.specs.Prelude.{slice_get, option_and_then}
 use Rattle.std.specs.Option.{option_or}
 use Rattle.xc_elements.specs.declared.nodes.Node.{Node}
 use Rattle.xc_elements.specs.Trees.{IsTree, parent_of, upward, path}
-use Rattle.xc_elements.specs.Scopes.{set_by, set_at, first_declared}
+use Rattle.xc_elements.specs.Declarations.{set_by}
+use Rattle.xc_elements.specs.Scopes.{set_at, first_declared}
 
 -- how many nodes the path from a node has at most
 abbrev pub height : Option ℕ → ℕ

@@ -1,10 +1,10 @@
 -- Loops over the attributes of a tag.
-use Rattle.std.proofs.Common.{◌≡◌, ℕ, Bool, true, false, ◌<◌, List, [], ◌∷◌, ◌++◌, length, take, drop, Option, Some, None, refl, sym, ap, ◌∙◌}
-use Rattle.std.specs.Prelude.{map, reverse, ◌||◌, IsSome}
+use Rattle.std.proofs.Common.{◌≡◌, ℕ, Bool, true, false, ◌<◌, List, [], ◌∷◌, ◌++◌, length, Option, Some, None, refl, sym, ap, ◌∙◌}
+use Rattle.std.specs.Prelude.{map, reverse, ◌||◌, IsSome, option_map}
 use Rattle.std.specs.List.{filter_map, cons_option, list_any}
 use Rattle.std.proofs.lemmas.List.Elements.{filter_map-append}
 use Rattle.std.proofs.lemmas.List.Folds.{list_any-append}
-use Rattle.std.proofs.lemmas.List.{map-append, reverse-append, length-reverse, take_at}
+use Rattle.std.proofs.lemmas.List.{map-append, reverse-append}
 use Rattle.xc_elements.specs.Fronts.{More, Last}
 use Rattle.xc_elements.specs.Items.{Pair, tag_turn, tag_rest}
 use Rattle.xc_elements.specs.Views.{attributes_at}
@@ -36,7 +36,7 @@ pub record Declares (text rest : List ℕ) (old new : List Binding) (declared : 
   pub so_far : List Pair
   pub gathers : Gathers tag_turn text rest so_far
   pub scope : new ≡ reverse (filter_map binding_of (map given so_far)) ++ old
-  pub are : declared ≡ map declaration_of (filter_map binding_of (map given so_far))
+  pub are : declared ≡ map declaration_of (reverse (filter_map binding_of (map given so_far)))
 
 pub declares_none : (text : List ℕ) (old : List Binding) (declared : List NamespaceDeclaration) → declared ≡ [] → Declares text text old old declared
 declares_none text old declared e = record { so_far = []; gathers = gathers_none tag_turn text; scope = refl; are = e }
@@ -58,15 +58,12 @@ past_first : (o : Option Binding) (bs cs : List Binding) → cons_option o (bs +
 past_first None bs cs = refl
 past_first (Some b) bs cs = refl
 
--- what one more attribute declares is gathered last
-gathered_more : (so_far : List Pair) (a : Pair) → map declaration_of (filter_map binding_of (map given (so_far ++ a ∷ []))) ≡ map declaration_of (filter_map binding_of (map given so_far)) ++ map declaration_of (cons_option (binding_of (given a)) [])
-gathered_more so_far a =
-    ap (λ gs. map declaration_of (filter_map binding_of gs)) (map-append given so_far (a ∷ []))
-    ∙ ap (map declaration_of) (filter_map-append binding_of (map given so_far) (given a ∷ []))
-    ∙ map-append declaration_of (filter_map binding_of (map given so_far)) (filter_map binding_of (given a ∷ []))
+map_first : (o : Option Binding) (bs : List Binding) → cons_option (option_map declaration_of o) (map declaration_of bs) ≡ map declaration_of (cons_option o bs)
+map_first None bs = refl
+map_first (Some b) bs = refl
 
 pub declares_more : (text rest after : List ℕ) (old new later : List Binding) (declared more : List NamespaceDeclaration) (a : Pair) → found (More a) after ≡ tag_turn rest →
-    later ≡ cons_option (binding_of (given a)) new → more ≡ declared ++ map declaration_of (cons_option (binding_of (given a)) []) →
+    later ≡ cons_option (binding_of (given a)) new → more ≡ cons_option (option_map declaration_of (binding_of (given a))) declared →
     Declares text rest old new declared → Declares text after old later more
 declares_more text rest after old new later declared more a is bound made d = let o = binding_of (given a) in record {
   so_far = d.so_far ++ a ∷ [];
@@ -75,29 +72,19 @@ declares_more text rest after old new later declared more a is bound made d = le
       ∙ ap (λ bs. cons_option o bs) d.scope
       ∙ past_first o (reverse (filter_map binding_of (map given d.so_far))) old
       ∙ ap (λ (bs : List Binding). bs ++ old) (sym (declared_more d.so_far a o refl));
-  are = made ∙ ap (λ ds. ds ++ map declaration_of (cons_option o [])) d.are ∙ sym (gathered_more d.so_far a);
+  are = made
+      ∙ ap (λ ds. cons_option (option_map declaration_of o) ds) d.are
+      ∙ map_first o (reverse (filter_map binding_of (map given d.so_far)))
+      ∙ ap (map declaration_of) (sym (declared_more d.so_far a o refl));
 }
 
 pub declares_all : (text rest after : List ℕ) (old new : List Binding) (declared : List NamespaceDeclaration) (b : Bool) → found (Last b) after ≡ tag_turn rest → Declares text rest old new declared → new ≡ reverse (filter_map binding_of (map given (attributes_at text))) ++ old
 declares_all text rest after old new declared b is d =
     d.scope ∙ ap (λ pairs. reverse (filter_map binding_of (map given pairs)) ++ old) (sym (all_gathered text rest after d.so_far b is d.gathers))
 
-map-reverse : {X Y : Type 0} (f : X → Y) (xs : List X) → reverse (map f xs) ≡ map f (reverse xs)
-map-reverse f [] = refl
-map-reverse f (x ∷ xs) =
-    reverse-append (f x ∷ []) (map f xs)
-    ∙ ap (λ ys. ys ++ f x ∷ []) (map-reverse f xs)
-    ∙ sym (map-append f (reverse xs) (x ∷ []))
-    ∙ ap (map f) (sym (reverse-append (x ∷ []) xs))
-
--- what a vector holds whose slice has been turned round
-pub turned_round : {X : Type 0} (items new : List X) (n : ℕ) → new ≡ reverse items → n ≡ length items → take n (new ++ drop (length new) items) ≡ reverse items
-turned_round items new n e count = take_at new (drop (length new) items) n (ap length e ∙ length-reverse items ∙ sym count) ∙ e
-
-pub declared_last_first : (text rest after : List ℕ) (old new : List Binding) (declared back : List NamespaceDeclaration) (b : Bool) → found (Last b) after ≡ tag_turn rest → back ≡ reverse declared → Declares text rest old new declared → back ≡ map declaration_of (reverse (filter_map binding_of (map given (attributes_at text))))
-declared_last_first text rest after old new declared back b is e d =
-    e ∙ ap reverse d.are ∙ map-reverse declaration_of (filter_map binding_of (map given d.so_far))
-    ∙ ap (λ pairs. map declaration_of (reverse (filter_map binding_of (map given pairs)))) (sym (all_gathered text rest after d.so_far b is d.gathers))
+pub declared_all : (text rest after : List ℕ) (old new : List Binding) (declared : List NamespaceDeclaration) (b : Bool) → found (Last b) after ≡ tag_turn rest → Declares text rest old new declared → declared ≡ map declaration_of (reverse (filter_map binding_of (map given (attributes_at text))))
+declared_all text rest after old new declared b is d =
+    d.are ∙ ap (λ pairs. map declaration_of (reverse (filter_map binding_of (map given pairs)))) (sym (all_gathered text rest after d.so_far b is d.gathers))
 
 -- ---- expanded names
 

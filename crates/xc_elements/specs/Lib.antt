@@ -3,6 +3,7 @@ pub mod Items
 pub mod Views
 pub mod Documents
 pub mod Trees
+pub mod Declarations
 pub mod Scopes
 pub mod Namespaces
 pub mod Elements

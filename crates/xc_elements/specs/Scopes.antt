@@ -1,14 +1,10 @@
 -- The namespace of a prefix at a node: Namespaces in XML 1.0, sections 3, 6.1 and 6.2.
-use Rattle.std.specs.Prelude.{ℕ, List, [], ◌∷◌, Option, Some, None, codes, find, slice_get, option_map, option_and_then, if◌then◌else◌}
+use Rattle.std.specs.Prelude.{ℕ, List, [], ◌∷◌, Option, Some, None, codes, slice_get, option_and_then, if◌then◌else◌}
 use Rattle.std.specs.Option.{option_or}
 use Rattle.std.specs.Str.{bytes_eq}
+use Rattle.xc_elements.specs.Declarations.{set_by}
 use Rattle.xc_elements.specs.Trees.{xml_space, path}
-use Rattle.xc_elements.specs.declared.nodes.NamespaceDeclaration.{NamespaceDeclaration}
 use Rattle.xc_elements.specs.declared.nodes.Node.{Node}
-
--- what declarations, the last first, set a prefix to; the empty prefix is that of the default namespace: section 3
-abbrev pub set_by : List NamespaceDeclaration → List ℕ → Option (List ℕ)
-set_by declared prefix = option_map (λ d. d.space) (find (λ d. bytes_eq d.prefix prefix) declared)
 
 -- what a node sets a prefix to: section 3
 abbrev pub set_at : List Node → ℕ → List ℕ → Option (List ℕ)

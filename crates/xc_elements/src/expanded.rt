@@ -1,5 +1,5 @@
 // Tags, with their names expanded.
-ghost use Rattle.std.specs.Prelude.{◌≡◌, ◌&&◌, ◌||◌, ◌++◌, [], Bool, false, true, IfOk, IfErr, IsSome, map, reverse, is_none, is_some, encode_utf8_all};
+ghost use Rattle.std.specs.Prelude.{◌≡◌, ◌&&◌, ◌||◌, ◌++◌, option_map, Bool, false, true, IfOk, IfErr, IsSome, map, reverse, is_none, is_some, encode_utf8_all};
 ghost use Rattle.std.specs.List.{filter_map, cons_option, list_any};
 ghost use Rattle.std.specs.Str.{chars};
 ghost use Rattle.xc_elements.specs.Items.{tag_rest, is_nil};
@@ -8,9 +8,10 @@ ghost use Rattle.xc_elements.specs.Namespaces.{given, binding_of, declaration_of
 ghost use Rattle.xc_elements.specs.Steps.Reading.{tag_view, new_node, IsRefusedTag};
 
 use crate::attributes::WrittenAttribute;
+use crate::declared::Declared;
 use crate::doubles::has_double;
 use crate::names::QualifiedName;
-use crate::nodes::{Attribute, NamespaceDeclaration, Node};
+use crate::nodes::{Attribute, Node};
 use crate::refusal::Refusal;
 use crate::scope::{Scope, declared_prefix, declares_default, declares_prefix};
 use crate::tags::{Tag, TagPart, tag_part};
@@ -18,17 +19,17 @@ use crate::texts::copied;
 use std::alloc::{AllocError, Global};
 use xc_lists::{Items, Text};
 
-/// Brings what a tag declares into scope, and gives it, the last first.
+/// Brings what a tag declares into scope, and gives it.
 pub(crate) fn declare<'a>(
     alloc: Global,
     scope: &mut Scope<'a>,
     tag: Tag<'a>,
-) -> Result<Vec<NamespaceDeclaration>, AllocError>
+) -> Result<Declared, AllocError>
     requires { IsSome (tag_rest (lent tag.attributes)) }
     ensures scope { IfOk result (λ _. scope.new ≡ reverse (filter_map binding_of (map given (attributes_at (lent tag.entry.attributes)))) ++ scope.old) }
-    ensures declared { IfOk result (λ declared. declared.items ≡ declared_by (tag_view tag.entry)) }
+    ensures declared { IfOk result (λ declared. declared ≡ declared_by (tag_view tag.entry)) }
 {
-    let mut declared = Vec::new(alloc);
+    let mut declared = Declared::new(alloc);
     let mut rest = tag.attributes;
     while let Some((part, after)) = tag_part(rest) {
         match part {
@@ -36,10 +37,7 @@ pub(crate) fn declare<'a>(
                 declare_one(alloc, scope, &mut declared, attribute)?;
                 rest = after;
             }
-            TagPart::End(_) => {
-                declared.as_mut_slice().reverse();
-                return Ok(declared);
-            }
+            TagPart::End(_) => return Ok(declared),
         }
     }
     Ok(declared)
@@ -49,21 +47,18 @@ pub(crate) fn declare<'a>(
 fn declare_one<'a>(
     alloc: Global,
     scope: &mut Scope<'a>,
-    declared: &mut Vec<NamespaceDeclaration>,
+    declared: &mut Declared,
     attribute: WrittenAttribute<'a>,
 ) -> Result<(), AllocError>
     requires { IsReadable attribute.value }
     ensures scope { IfOk result (λ _. scope.new ≡ cons_option (binding_of (given (attribute_view attribute.entry))) scope.old) }
-    ensures declared { IfOk result (λ _. declared.new.items ≡ declared.old.items ++ map declaration_of (cons_option (binding_of (given (attribute_view attribute.entry))) [])) }
+    ensures declared { IfOk result (λ _. declared.new ≡ cons_option (option_map declaration_of (binding_of (given (attribute_view attribute.entry)))) declared.old) }
 {
     let Some(prefix) = declared_prefix(attribute.name) else {
         return Ok(());
     };
     let space = attribute.value.decoded(alloc)?;
-    declared.push(NamespaceDeclaration {
-        prefix: copied(alloc, prefix)?,
-        space: copied(alloc, space.as_str())?,
-    })?;
+    declared.add(alloc, prefix, space.copy()?)?;
     scope.bind(prefix, space)
 }
 
@@ -165,12 +160,12 @@ pub(crate) fn new_node(
     alloc: Global,
     scope: &Scope,
     tag: Tag,
-    declared: Vec<NamespaceDeclaration>,
+    declared: Declared,
     parent: Option<u32>,
     end: u32,
 ) -> Result<Node, Refusal>
     requires readable { IsSome (tag_rest (lent tag.attributes)) }
-    requires declared { declared.items ≡ declared_by (tag_view tag) }
+    requires declared { declared ≡ declared_by (tag_view tag) }
     ensures node { IfOk result (λ node. node ≡ new_node scope.now (tag_view tag.entry) parent end) }
     ensures spaced { IfOk result (λ node. tag_lacks_space scope.now (tag_view tag.entry) ≡ false) }
     ensures distinct { IfOk result (λ node. has_double (map (expand scope.now) (tag_view tag.entry).attributes) ≡ false) }
@@ -190,7 +185,7 @@ pub(crate) fn new_node(
         space: copied(alloc, space)?,
         local: copied(alloc, tag.name.local)?,
         attributes: Items::of(expanded.attributes),
-        declared: Items::of(declared),
+        declared,
         parent,
         end,
         text: Text::of(String::new(alloc)),

@@ -3,6 +3,7 @@
 
 mod attributes;
 mod declarations;
+mod declared;
 mod documents;
 mod doubles;
 mod expanded;
@@ -22,6 +23,7 @@ mod texts;
 mod trees;
 
 pub use attributes::{WrittenAttribute, WrittenValue};
+pub use declared::Declared;
 pub use documents::{fault_at, item_fault, text_of};
 pub use fault::{ItemFault, TreeFault};
 pub use items::{Item, item_at};

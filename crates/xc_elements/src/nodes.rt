@@ -1,9 +1,9 @@
 // The nodes of trees.
 ghost use Rattle.std.specs.Prelude.{◌≡◌, ◌&&◌, option_map};
 ghost use Rattle.std.specs.Str.{bytes_eq};
-ghost use Rattle.xc_elements.specs.Scopes.{set_by};
 ghost use Rattle.xc_elements.specs.Trees.{is_element, is_named, value_among};
 
+use crate::declared::Declared;
 use xc_lists::{Items, Text};
 
 /// An attribute of an element, by its expanded name.
@@ -36,8 +36,8 @@ pub struct Node {
     pub local: Text,
     /// In the order of the document.
     pub attributes: Items<Attribute>,
-    /// What it declares itself, the last first.
-    pub declared: Items<NamespaceDeclaration>,
+    /// What it declares itself, by the names of attributes as they are written.
+    pub declared: Declared,
     /// The number of the element that it stands directly in.
     pub parent: Option<u32>,
     /// The number behind the last element inside it.
@@ -74,14 +74,4 @@ pub(crate) fn value_among<'a>(
         .iter()
         .find(|attribute| is_named(attribute, space, local))
         .map(|attribute| attribute.value.as_str())
-}
-
-/// What declarations, the last first, set a prefix to.
-pub(crate) fn set_by<'a>(declared: &'a [NamespaceDeclaration], prefix: &str) -> Option<&'a str>
-    ensures { option_map (λ space. space.now) result ≡ set_by declared.now prefix.now }
-{
-    declared
-        .iter()
-        .find(|declaration| declaration.prefix.as_str() == prefix)
-        .map(|declaration| declaration.space.as_str())
 }

@@ -3,7 +3,7 @@ ghost use Rattle.std.specs.Prelude.{◌≡◌, ◌<◌, IfSome, length, option_m
 ghost use Rattle.xc_elements.specs.Scopes.{first_declared, not_empty, space_in_scope};
 ghost use Rattle.xc_elements.specs.Trees.{IsTree, path, parent_of, attribute_of, trimmed_attribute};
 
-use crate::nodes::{Node, set_by, value_among};
+use crate::nodes::{Node, value_among};
 use std::marker::Model;
 use xc_chars::trimmed;
 use xc_lists::Items;
@@ -132,7 +132,7 @@ fn first_declared<'a>(nodes: &'a [Node], node: u32, prefix: &str) -> Option<&'a 
     let mut at = Some(node);
     while let Some(number) = at {
         let here = &nodes[number as usize];
-        match set_by(here.declared.as_slice(), prefix) {
+        match here.declared.get(prefix) {
             Some(space) => return Some(space),
             None => at = here.parent,
         }

@@ -1,12 +1,12 @@
-use Rattle.std.proofs.Common.{◌∙◌, sym, ap, refl, rules}
+use Rattle.std.proofs.Common.{◌∙◌, sym, ap, rules}
 use Rattle.std.specs.Str.{chars}
 use Rattle.xc_elements.specs.Views.{tag_part_view, attribute_view}
 use Rattle.xc_elements.proofs.FrontLaws.{found}
-use Rattle.xc_elements.proofs.TagLaws.{declares_none, declares_more, declares_all, declared_last_first, turned_round, attribute_shorter, never_endless}
+use Rattle.xc_elements.proofs.TagLaws.{declares_none, declares_more, declares_all, declared_all, attribute_shorter, never_endless}
 use Rattle.xc_elements.proofs.expanded.declare.Goals as goal
 
 pub loop-part-init : goal.loop-part-init
-loop-part-init c = (search rules, declares_none (chars c.args.tag.attributes.now) c.args.scope.now c.new-declared.result.items c.new-declared.ensures.items)
+loop-part-init c = (search rules, declares_none (chars c.args.tag.attributes.now) c.args.scope.now c.new-declared.result c.new-declared.ensures)
 
 pub loop-part-smaller : goal.loop-part-smaller
 loop-part-smaller c =
@@ -16,7 +16,7 @@ loop-part-smaller c =
 pub loop-part-preserved : goal.loop-part-preserved
 loop-part-preserved c = (
   search rules,
-  declares_more (chars c.args.tag.attributes.now) (chars c.loop-part.rest.now) (chars c.in-Some.after.now) c.args.scope.now c.loop-part.scope _ c.loop-part.declared.items _ (attribute_view c.in-Attribute.attribute)
+  declares_more (chars c.args.tag.attributes.now) (chars c.loop-part.rest.now) (chars c.in-Some.after.now) c.args.scope.now c.loop-part.scope _ c.loop-part.declared _ (attribute_view c.in-Attribute.attribute)
       (sym (ap (λ t. found (tag_part_view t) (chars c.in-Some.after.now)) c.in-Attribute.is) ∙ c.in-Some.ensures.value)
       c.in_ok-declare_one-in-Attribute.ensures.scope
       c.in_ok-declare_one-in-Attribute.ensures.declared
@@ -25,15 +25,14 @@ loop-part-preserved c = (
 
 pub returns-in-End-clause-scope : goal.returns-in-End-clause-scope
 returns-in-End-clause-scope c =
-    declares_all (chars c.args.tag.attributes.now) (chars c.loop-part.rest.now) (chars c.in-Some.after.now) c.args.scope.now c.loop-part.scope c.loop-part.declared.items c.in-End.field-0
+    declares_all (chars c.args.tag.attributes.now) (chars c.loop-part.rest.now) (chars c.in-Some.after.now) c.args.scope.now c.loop-part.scope c.loop-part.declared c.in-End.field-0
     (sym (ap (λ t. found (tag_part_view t) (chars c.in-Some.after.now)) c.in-End.is) ∙ c.in-Some.ensures.value)
     c.loop-part.invariant.1
 
 pub returns-in-End-clause-declared : goal.returns-in-End-clause-declared
 returns-in-End-clause-declared c =
-    declared_last_first (chars c.args.tag.attributes.now) (chars c.loop-part.rest.now) (chars c.in-Some.after.now) c.args.scope.now c.loop-part.scope c.loop-part.declared.items _ c.in-End.field-0
+    declared_all (chars c.args.tag.attributes.now) (chars c.loop-part.rest.now) (chars c.in-Some.after.now) c.args.scope.now c.loop-part.scope c.loop-part.declared c.in-End.field-0
     (sym (ap (λ t. found (tag_part_view t) (chars c.in-Some.after.now)) c.in-End.is) ∙ c.in-Some.ensures.value)
-    (turned_round c.loop-part.declared.items c.reverse.new.self c.loop-part.declared.len (search rules) (search rules))
     c.loop-part.invariant.1
 
 pub returns-clause-scope : goal.returns-clause-scope

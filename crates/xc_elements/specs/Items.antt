@@ -96,6 +96,7 @@ referent name =
     else if spells name (codes "apos") then Some 39
     else character_by_hash (one name)
 
+-- a reference to a character, behind its `&`: XML 1.0, section 4.1
 unfoldable pub reference : Front ℕ
 reference = up_to (codes ";") >>= λ name. give_some (referent name)
 
@@ -123,6 +124,7 @@ value_turn_at mark c =
     else if is_character c && not (c == 60) then give (More c)
     else refuse
 
+-- the same of the first character of a text: XML 1.0, section 3.3.3
 unfoldable pub value_turn : ℕ → Front (Turn ℕ Unit)
 value_turn mark = one >>= value_turn_at mark
 
@@ -130,6 +132,7 @@ value_turn mark = one >>= value_turn_at mark
 unfoldable pub value_until : ℕ → Front (List ℕ)
 value_until mark = sequence (value_turn mark) >>= λ x. give x.0
 
+-- a name, an equals sign and a quoted value: XML 1.0, section 3.1
 unfoldable pub attribute : Front Pair
 attribute = do
   name ← qualified_name
@@ -148,6 +151,7 @@ tag_turn_at spaces c =
     else if is_nil spaces then refuse
     else (attribute >>= λ a. give (More a))
 
+-- what stands next in a tag: white space and an attribute, or its end: XML 1.0, section 3.1
 unfoldable pub tag_turn : Front (Turn Pair Bool)
 tag_turn = run is_space >>= λ spaces. by_next (tag_turn_at spaces)
 
@@ -184,6 +188,7 @@ may_declare name value = not (spells name (codes "encoding")) || is_known_encodi
 abbrev pub is_inside : ℕ → ℕ → Bool
 is_inside mark c = is_character c && not (c == mark)
 
+-- a name, an equals sign and a quoted value that it may have: XML 1.0, section 2.8
 unfoldable pub part : Front Unit
 part = do
   name ← plain_name
@@ -200,9 +205,11 @@ part_turn_at spaces c =
     else if is_nil spaces then refuse
     else (part >> give (More tt))
 
+-- what stands next in a declaration: white space and a part, or its end: XML 1.0, section 2.8
 unfoldable pub part_turn : Front (Turn Unit Unit)
 part_turn = run is_space >>= λ spaces. by_next (part_turn_at spaces)
 
+-- the parts of a declaration, up to its end: XML 1.0, section 2.8
 unfoldable pub declaration : Front Meaning
 declaration = sequence part_turn >> give Declaration
 

@@ -9,6 +9,7 @@ use Rattle.xc_elements.specs.Views.{lent}
 use Rattle.xc_elements.specs.Namespaces.{Binding}
 use Rattle.xc_elements.specs.declared.scope.BoundPrefix.{BoundPrefix}
 
+-- the binding that a bound prefix stands for
 abbrev pub binding_view : BoundPrefix → Binding
 binding_view b = record { prefix = lent b.prefix; space = b.space }
 

@@ -11,6 +11,7 @@ pub record Kept : Type 0 where
   pub outside : ℕ
   pub text : List ℕ
 
+-- what an open element keeps
 abbrev pub kept : OpenElement → Kept
 kept e = record { number = e.number; name = name_view e.name; outside = e.outside; text = string_bytes e.text }
 

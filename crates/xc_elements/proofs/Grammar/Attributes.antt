@@ -1,14 +1,14 @@
 -- An attribute is read exactly where the text begins with one.
-use Rattle.std.proofs.Common.{◌≡◌, ℕ, Bool, true, false, cond, List, [], ◌∷◌, ◌++◌, Option, Some, None, refl, sym, ap, ◌∙◌, ◌⊎◌, subst, inl, inr, append_assoc, eqb-true}
+use Rattle.std.proofs.Common.{◌≡◌, ℕ, true, List, [], ◌∷◌, ◌++◌, Some, refl, ap, ◌∙◌, subst, inl, inr, eqb-true}
 use Rattle.std.specs.Prelude.{codes, ◌↔◌, ◌==◌, ◌||◌}
 use Rattle.std.proofs.lemmas.Bool.{or_cases}
 use Rattle.xc_chars.specs.Characters.{is_space, is_name_start, is_name_char}
-use Rattle.xc_elements.specs.Fronts.{Front, go_on, followed_by, ◌>>=◌, ◌>>◌, give, refuse, one, exactly, run}
+use Rattle.xc_elements.specs.Fronts.{go_on, followed_by, ◌>>=◌, ◌>>◌, give, refuse, one, exactly, run}
 use Rattle.xc_elements.specs.Items.{Name, Pair, qualified_name, equals, quote, value_until, attribute}
 use Rattle.xc_elements.specs.Grammar.Words.{AreSpaces}
 use Rattle.xc_elements.specs.Grammar.Values.{IsQuote, IsValue}
 use Rattle.xc_elements.specs.Grammar.Attributes.{IsAttribute}
-use Rattle.xc_elements.proofs.FrontLaws.{split, same_answer, exactly_whole, exactly_again}
+use Rattle.xc_elements.proofs.FrontLaws.{split, same_answer, exactly_whole}
 use Rattle.xc_elements.proofs.Grammar.Names.{Stops, IsRun, run_read, run_spelled, NameRead, EndsName, qualified_name_read, qualified_name_spelled, spaces_end_name}
 use Rattle.xc_elements.proofs.Grammar.Shapes.{chosen_front}
 use Rattle.xc_elements.proofs.Grammar.Values.{value_holds}

@@ -1,22 +1,21 @@
 -- An item is the declaration exactly where it is the first and the text begins with one.
-use Rattle.std.proofs.Common.{◌≡◌, ◌≢◌, ℕ, zero, suc, Bool, true, false, cond, List, [], ◌∷◌, ◌++◌, map, length, Option, Some, None, refl, sym, ap, ◌∙◌, ◌⊎◌, subst, inl, inr, append_assoc, eqb-true, eq-eqb, arith}
-use Rattle.std.specs.Prelude.{codes, ◌↔◌, ◌==◌, ◌&&◌, ◌||◌, not, if◌then◌else◌}
+use Rattle.std.proofs.Common.{◌≡◌, ◌≢◌, ℕ, zero, suc, Bool, true, false, cond, List, [], ◌∷◌, ◌++◌, map, length, Some, refl, sym, ap, ◌∙◌, subst, inl, inr, eqb-true, eq-eqb, arith}
+use Rattle.std.specs.Prelude.{codes, ◌↔◌, ◌==◌, ◌&&◌, ◌||◌, not}
 use Rattle.std.specs.Char.{to_ascii_lowercase}
 use Rattle.std.proofs.lemmas.Bool.{and_from, and_parts, or_cases, or_left, or_right, not-true, false_from_ne_true, cases_Bool}
 use Rattle.xc_chars.specs.Characters.{is_character, is_space, is_name_start, is_name_char}
-use Rattle.xc_elements.specs.Fronts.{Front, followed_by, ◌>>=◌, ◌>>◌, give, refuse, one, by_next, past, exactly, run, Turn, More, Last, sequence}
-use Rattle.xc_elements.specs.Items.{Name, Meaning, Declaration, is_nil, spells, spells_in_any_case, is_known_encoding, may_declare, is_inside, plain_name, equals, quote, part, part_turn_at, part_turn, declaration, instruction_rest, behind_target, instruction, markup, item}
+use Rattle.xc_elements.specs.Fronts.{followed_by, ◌>>=◌, ◌>>◌, give, refuse, one, by_next, past, exactly, run, Turn, More, Last, sequence}
+use Rattle.xc_elements.specs.Items.{Declaration, is_nil, spells, spells_in_any_case, is_known_encoding, may_declare, is_inside, plain_name, equals, quote, part, part_turn_at, part_turn, declaration, instruction_rest, behind_target, instruction, markup, item}
 use Rattle.xc_elements.specs.Grammar.Words.{Each, AreCharacters, AreSpaces, IsPlainName, Occurs}
-use Rattle.xc_elements.specs.Grammar.Values.{IsQuote}
 use Rattle.xc_elements.specs.Grammar.Tags.{Closes}
 use Rattle.xc_elements.specs.Grammar.Declarations.{IsEncoding, IsPart, BeginsWithPart, HasParts, IsDeclaration}
 use Rattle.xc_elements.proofs.FrontLaws.{split, same_answer, exactly_whole, exactly_again}
 use Rattle.xc_elements.proofs.ItemLaws.{part_turn_ends}
 use Rattle.xc_elements.proofs.SequenceLaws.{turns_from_ends}
 use Rattle.xc_elements.proofs.Grammar.Attributes.{IsEquals, equals_read, equals_spelled, QuoteRead, quote_read, quote_spelled, quote_stops}
-use Rattle.xc_elements.proofs.Grammar.Kinds.{kind, instruction_rest_kind, as_declaration}
+use Rattle.xc_elements.proofs.Grammar.Kinds.{instruction_rest_kind, as_declaration}
 use Rattle.xc_elements.proofs.Grammar.Names.{Stops, IsRun, run_read, run_spelled, PlainRead, plain_name_read, plain_name_spelled, space_ends_name}
-use Rattle.xc_elements.proofs.Grammar.Sequences.{Step, Steps, sequence_read, sequence_spelled}
+use Rattle.xc_elements.proofs.Grammar.Sequences.{Steps, sequence_read, sequence_spelled}
 use Rattle.xc_elements.proofs.Grammar.Shapes.{chosen_front, shape_of}
 use Rattle.xc_elements.proofs.Grammar.Spelling.{spelled_is, spells_word, each_at}
 use Rattle.xc_elements.proofs.Grammar.Tags.{not_nil, nil_not, NameFirst, plain_first, start_differs, start_is_no_space, some_spaces_end_name}

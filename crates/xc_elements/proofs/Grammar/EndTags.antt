@@ -1,9 +1,9 @@
 -- An item is an end tag exactly where the text begins with one.
-use Rattle.std.proofs.Common.{◌≡◌, ℕ, Bool, true, false, List, [], ◌∷◌, ◌++◌, Option, Some, None, refl, sym, ap, ◌∙◌, subst}
+use Rattle.std.proofs.Common.{◌≡◌, ℕ, Bool, List, ◌∷◌, ◌++◌, Some, refl, sym, ap, ◌∙◌, subst}
 use Rattle.std.specs.Prelude.{codes, ◌↔◌}
 use Rattle.xc_chars.specs.Characters.{is_space, is_name_start, is_name_char}
 use Rattle.xc_elements.specs.Fronts.{followed_by, ◌>>=◌, give, one, by_next, exactly, run}
-use Rattle.xc_elements.specs.Items.{Name, Meaning, End, qualified_name, end_tag, markup, item}
+use Rattle.xc_elements.specs.Items.{Name, End, qualified_name, end_tag, markup, item}
 use Rattle.xc_elements.specs.Grammar.EndTags.{IsEndTag}
 use Rattle.xc_elements.proofs.FrontLaws.{split, same_answer, exactly_whole}
 use Rattle.xc_elements.proofs.Grammar.Kinds.{as_end_tag}

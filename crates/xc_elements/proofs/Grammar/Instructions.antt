@@ -1,14 +1,14 @@
 -- An item is an instruction exactly where the text begins with one.
-use Rattle.std.proofs.Common.{◌≡◌, ◌≢◌, ℕ, Bool, true, false, cond, List, [], ◌∷◌, ◌++◌, map, Option, Some, None, refl, sym, ap, ◌∙◌, ◌⊎◌, subst, inl, inr, arith}
+use Rattle.std.proofs.Common.{◌≡◌, ◌≢◌, ℕ, Bool, true, false, cond, List, [], ◌∷◌, ◌++◌, map, Some, None, refl, sym, ap, ◌∙◌, ◌⊎◌, subst, inl, inr, arith}
 use Rattle.std.specs.Prelude.{codes, ◌↔◌, ◌&&◌}
 use Rattle.std.specs.Char.{to_ascii_lowercase}
 use Rattle.xc_chars.specs.Characters.{is_space, is_name_start, is_name_char}
-use Rattle.xc_elements.specs.Fronts.{followed_by, ◌>>=◌, ◌>>◌, give, refuse, one, by_next, exactly, run, up_to}
-use Rattle.xc_elements.specs.Items.{Meaning, Declaration, Instruction, spells, spells_in_any_case, plain_name, declaration, instruction_rest, behind_target, instruction, markup, item}
-use Rattle.xc_elements.specs.Grammar.Words.{AreCharacters, BeginsWithSpace, IsPlainName, Occurs}
-use Rattle.xc_elements.specs.Grammar.Instructions.{IsSpaced, IsTarget, IsInstruction}
+use Rattle.xc_elements.specs.Fronts.{followed_by, ◌>>◌, give, refuse, one, by_next, exactly, up_to}
+use Rattle.xc_elements.specs.Items.{Instruction, spells, spells_in_any_case, plain_name, declaration, instruction_rest, behind_target, instruction, markup, item}
+use Rattle.xc_elements.specs.Grammar.Words.{BeginsWithSpace, Occurs}
+use Rattle.xc_elements.specs.Grammar.Instructions.{IsSpaced, IsInstruction}
 use Rattle.xc_elements.proofs.FrontLaws.{split, same_answer, exactly_whole, exactly_again}
-use Rattle.xc_elements.proofs.Grammar.Kinds.{kind, declaration_kind, as_instruction}
+use Rattle.xc_elements.proofs.Grammar.Kinds.{declaration_kind, as_instruction}
 use Rattle.xc_elements.proofs.Grammar.Marks.{FirstMark, first_mark, up_to_first, nowhere, none_unless, cons_same}
 use Rattle.xc_elements.proofs.Grammar.Names.{Stops, PlainRead, plain_name_read, plain_name_spelled, space_ends_name}
 use Rattle.xc_elements.proofs.Grammar.Shapes.{chosen_front, shape_of}

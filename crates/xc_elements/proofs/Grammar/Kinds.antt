@@ -1,11 +1,11 @@
 -- Each kind of item is told by what the text begins with.
-use Rattle.std.proofs.Common.{◌≡◌, ℕ, Bool, true, false, cond, List, [], ◌∷◌, ◌++◌, Option, Some, None, refl, sym, ap, ◌∙◌, ◌⊎◌, subst, inl, inr, arith}
+use Rattle.std.proofs.Common.{◌≡◌, ℕ, Bool, true, false, cond, List, [], ◌∷◌, ◌++◌, Some, refl, sym, ap, ◌∙◌, ◌⊎◌, subst, inl, inr, arith}
 use Rattle.std.specs.Prelude.{codes, ◌==◌, if◌then◌else◌, ◌&&◌}
 use Rattle.xc_chars.specs.Characters.{is_character, is_space}
 use Rattle.xc_elements.specs.Fronts.{Front, followed_by, ◌>>=◌, ◌>>◌, give, refuse, one, by_next, exactly, run, up_to, sequence}
-use Rattle.xc_elements.specs.Items.{Name, Pair, Meaning, Declaration, Start, Empty, End, Comment, Instruction, Section, Letter, Reference, spells, spells_in_any_case, plain_name, qualified_name, reference, tag_rest, part_turn, tag, end_tag, declaration, instruction_rest, behind_target, instruction, comment, section, item}
+use Rattle.xc_elements.specs.Items.{Name, Pair, Meaning, Declaration, Start, Empty, End, Comment, Instruction, Section, Letter, Reference, spells, spells_in_any_case, plain_name, qualified_name, reference, tag_rest, part_turn, tag, end_tag, declaration, instruction_rest, behind_target, instruction, comment, section}
 use Rattle.xc_elements.proofs.FrontLaws.{split, same_answer}
-use Rattle.xc_elements.proofs.Grammar.Shapes.{chosen_front, Shape, AsEnd, AsInstruction, AsComment, AsSection, AsTag, AsReference, AsLetter, shape_of}
+use Rattle.xc_elements.proofs.Grammar.Shapes.{chosen_front, Shape, AsEnd, AsInstruction, AsComment, AsSection, AsTag, AsReference, AsLetter}
 
 -- a number for each kind
 abbrev pub kind : Meaning → ℕ

@@ -1,5 +1,5 @@
 -- What stands before the first place of a mark.
-use Rattle.std.proofs.Common.{◌≡◌, ℕ, ◌<◌, Bool, true, false, cond, List, [], ◌∷◌, ◌++◌, length, Option, Some, None, refl, sym, ap, ◌∙◌, subst, inl, inr, append_assoc, arith}
+use Rattle.std.proofs.Common.{◌≡◌, ℕ, ◌<◌, true, cond, List, [], ◌∷◌, ◌++◌, length, Option, Some, None, refl, sym, ap, ◌∙◌, subst, inl, inr, append_assoc}
 use Rattle.std.specs.Prelude.{option_map, is_some}
 use Rattle.xc_chars.specs.Characters.{is_character}
 use Rattle.xc_elements.specs.Fronts.{exactly, put_before, up_to}

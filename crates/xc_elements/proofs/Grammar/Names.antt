@@ -1,11 +1,11 @@
 -- Names and white space at the front of a text are the longest ones.
-use Rattle.std.proofs.Common.{◌≡◌, ℕ, Bool, true, false, cond, List, [], ◌∷◌, ◌++◌, Option, Some, None, refl, sym, ap, ◌∙◌, ◌⊎◌, subst, inl, inr, append_assoc, eqb-true}
+use Rattle.std.proofs.Common.{◌≡◌, ℕ, Bool, true, false, cond, List, [], ◌∷◌, ◌++◌, Some, refl, sym, ap, ◌∙◌, subst, inl, inr, append_assoc, eqb-true}
 use Rattle.std.specs.Prelude.{codes, option_map, ◌==◌, ◌||◌}
-use Rattle.std.proofs.lemmas.Bool.{or_cases, or_left}
+use Rattle.std.proofs.lemmas.Bool.{or_cases}
 use Rattle.xc_chars.specs.Characters.{is_space, is_name_start, is_name_char}
-use Rattle.xc_elements.specs.Fronts.{Front, followed_by, ◌>>=◌, give, refuse, one, by_next, past, put_before, run}
+use Rattle.xc_elements.specs.Fronts.{followed_by, ◌>>=◌, give, refuse, one, by_next, past, put_before, run}
 use Rattle.xc_elements.specs.Items.{Name, prefixed, unprefixed, plain_name, qualified_name}
-use Rattle.xc_elements.specs.Grammar.Words.{Each, AreSpaces, IsPlainName, IsUnprefixed, IsPrefixed, IsName}
+use Rattle.xc_elements.specs.Grammar.Words.{Each, AreSpaces, IsPlainName, IsName}
 use Rattle.xc_elements.proofs.FrontLaws.{split, chosen, mapped, same_answer}
 use Rattle.xc_elements.proofs.Grammar.Shapes.{chosen_front}
 

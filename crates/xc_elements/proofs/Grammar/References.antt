@@ -1,17 +1,17 @@
 -- An item is a reference exactly where the text begins with one.
-use Rattle.std.proofs.Common.{◌≡◌, ◌≢◌, ℕ, zero, suc, ◌+◌, ◌*◌, ◌^◌, ◌<◌, ◌≤◌, Bool, true, false, cond, List, [], ◌∷◌, ◌++◌, length, Option, Some, None, refl, sym, ap, ◌∙◌, ◌⊎◌, subst, inl, inr, arith, add-mul, mul_assoc, add_assoc, pow-suc, eqb-true, ltb-true, ltb-false, zero-mul, leb-true, le-leb, le-ltb, mul-one, mul_comm}
+use Rattle.std.proofs.Common.{◌≡◌, ℕ, ◌+◌, ◌*◌, ◌^◌, ◌<◌, ◌≤◌, Bool, true, false, cond, List, [], ◌∷◌, ◌++◌, length, Option, Some, None, refl, sym, ap, ◌∙◌, ◌⊎◌, subst, inl, inr, arith, add-mul, mul_assoc, add_assoc, pow-suc, eqb-true, ltb-true, ltb-false, zero-mul, le-leb, le-ltb, mul-one, mul_comm}
 use native.Mathlib.Nat.{pow-zero}
 use Rattle.std.specs.Prelude.{codes, ◌↔◌, ◌==◌, ◌&&◌, ◌||◌, not, nat_lt, nat_le}
-use Rattle.std.proofs.lemmas.Bool.{false_from_ne_true, and_from, or_left, or_right, cases_Bool, and_parts, not-true}
+use Rattle.std.proofs.lemmas.Bool.{false_from_ne_true, and_from, or_right, cases_Bool, and_parts, not-true}
 use Rattle.std.specs.Char.{digit_value, is_digit}
 use Rattle.xc_chars.specs.Characters.{is_character}
-use Rattle.xc_elements.specs.Fronts.{followed_by, ◌>>=◌, give, give_some, refuse, one, by_next, exactly, up_to}
+use Rattle.xc_elements.specs.Fronts.{followed_by, give, give_some, refuse, one, by_next, exactly, up_to}
 use Rattle.xc_elements.specs.Items.{Reference, spells, character_from, character_numbered, character_by_mark, character_by_hash, referent, reference, item}
 use Rattle.xc_elements.specs.Grammar.Words.{Each, AreCharacters}
 use Rattle.xc_elements.specs.Grammar.References.{number_of, IsNumber, IsNumbered, IsNamed, StandsFor, LessThan, GreaterThan, Ampersand, Quotation, Apostrophe, Decimal, Hexadecimal, IsReference}
 use Rattle.xc_elements.proofs.FrontLaws.{split, chosen, same_answer}
 use Rattle.xc_elements.proofs.Grammar.Kinds.{as_reference}
-use Rattle.xc_elements.proofs.Grammar.Marks.{first_mark, FirstMark, up_to_first}
+use Rattle.xc_elements.proofs.Grammar.Marks.{first_mark, up_to_first}
 use Rattle.xc_elements.proofs.Grammar.Shapes.{shape_of}
 use Rattle.xc_elements.proofs.Grammar.Spelling.{spelled_is, each_at}
 

@@ -1,9 +1,9 @@
 -- An item is a section exactly where the text begins with one.
-use Rattle.std.proofs.Common.{◌≡◌, ℕ, Bool, true, false, List, [], ◌∷◌, ◌++◌, length, Option, Some, None, refl, sym, ap, ◌∙◌, subst, arith}
+use Rattle.std.proofs.Common.{◌≡◌, ℕ, Bool, List, [], ◌∷◌, ◌++◌, Some, None, refl, sym, ap, ◌∙◌, subst, arith}
 use Rattle.std.specs.Prelude.{codes, ◌↔◌}
 use Rattle.xc_elements.specs.Fronts.{followed_by, give, one, by_next, exactly, up_to}
 use Rattle.xc_elements.specs.Items.{Meaning, Section, section, comment_or_section, markup, item}
-use Rattle.xc_elements.specs.Grammar.Words.{AreCharacters, Occurs}
+use Rattle.xc_elements.specs.Grammar.Words.{Occurs}
 use Rattle.xc_elements.specs.Grammar.Sections.{IsSection}
 use Rattle.xc_elements.proofs.FrontLaws.{split, same_answer, exactly_whole}
 use Rattle.xc_elements.proofs.Grammar.Marks.{FirstMark, first_mark, up_to_first, nowhere, none_unless, cons_same}

@@ -1,7 +1,7 @@
 -- A sequence is its turns, one behind another.
-use Rattle.std.proofs.Common.{◌≡◌, ℕ, zero, suc, ◌<◌, ◌≤◌, List, [], ◌∷◌, ◌++◌, length, Option, Some, None, refl, sym, ap, ◌∙◌, subst, arith, length-append}
+use Rattle.std.proofs.Common.{◌≡◌, ℕ, zero, suc, ◌<◌, ◌≤◌, List, [], ◌∷◌, length, Option, Some, None, refl, sym, ap, ◌∙◌, subst, arith, length-append}
 use Rattle.std.specs.Prelude.{option_map}
-use Rattle.xc_elements.specs.Fronts.{Front, followed_by, give, refuse, Turn, More, Last, repeated, sequence}
+use Rattle.xc_elements.specs.Fronts.{Front, refuse, Turn, More, Last, repeated, sequence}
 use Rattle.xc_elements.proofs.FrontLaws.{Ended, mapped, same_answer}
 use Rattle.xc_elements.proofs.SequenceLaws.{Turns, with_first, repeated_last, repeated_more, repeated_none}
 

@@ -1,5 +1,5 @@
 -- With what an item of each kind begins, and which row it is of.
-use Rattle.std.proofs.Common.{◌≡◌, ℕ, Bool, true, false, cond, List, [], ◌∷◌, ◌++◌, Option, Some, None, refl, sym, ap, ◌∙◌, ◌⊎◌, subst, inl, inr, arith, eqb-true}
+use Rattle.std.proofs.Common.{◌≡◌, ℕ, Bool, true, false, cond, List, [], ◌∷◌, ◌++◌, Option, Some, refl, sym, ap, ◌∙◌, ◌⊎◌, subst, inl, inr, eqb-true}
 use Rattle.std.specs.Prelude.{codes, ◌==◌}
 use Rattle.xc_chars.specs.Characters.{is_character}
 use Rattle.xc_elements.specs.Fronts.{Front, followed_by, ◌>>=◌, ◌>>◌, give, refuse, one, by_next, past, exactly}

@@ -1,9 +1,9 @@
 -- An item is a tag exactly where the text begins with one.
-use Rattle.std.proofs.Common.{◌≡◌, ◌≢◌, ℕ, Bool, true, false, cond, List, [], ◌∷◌, ◌++◌, Option, Some, None, refl, sym, ap, ◌∙◌, ◌⊎◌, subst, inl, inr, append_assoc, eqb-true}
-use Rattle.std.specs.Prelude.{codes, ◌↔◌, ◌==◌, if◌then◌else◌}
+use Rattle.std.proofs.Common.{◌≡◌, ◌≢◌, ℕ, Bool, true, false, cond, List, [], ◌∷◌, ◌++◌, Some, refl, sym, ap, ◌∙◌, subst, inl, inr, append_assoc, eqb-true}
+use Rattle.std.specs.Prelude.{codes, ◌↔◌, ◌==◌}
 use Rattle.std.proofs.lemmas.Bool.{false_from_ne_true}
 use Rattle.xc_chars.specs.Characters.{is_space, is_name_start, is_name_char}
-use Rattle.xc_elements.specs.Fronts.{Front, followed_by, ◌>>=◌, ◌>>◌, give, refuse, one, by_next, past, exactly, run, Turn, More, Last, sequence}
+use Rattle.xc_elements.specs.Fronts.{followed_by, ◌>>=◌, ◌>>◌, give, refuse, one, by_next, past, exactly, run, Turn, More, Last, sequence}
 use Rattle.xc_elements.specs.Items.{Name, Pair, Meaning, Start, Empty, is_nil, qualified_name, attribute, tag_turn_at, tag_turn, tag_rest, tag, markup, item}
 use Rattle.xc_elements.specs.Grammar.Words.{AreSpaces, IsPlainName, IsName}
 use Rattle.xc_elements.specs.Grammar.Attributes.{IsAttribute}
@@ -12,9 +12,9 @@ use Rattle.xc_elements.proofs.FrontLaws.{split, same_answer, exactly_whole}
 use Rattle.xc_elements.proofs.ItemLaws.{tag_turn_ends}
 use Rattle.xc_elements.proofs.SequenceLaws.{turns_from_ends}
 use Rattle.xc_elements.proofs.Grammar.Attributes.{attribute_holds}
-use Rattle.xc_elements.proofs.Grammar.Kinds.{Behind, as_start, as_empty}
-use Rattle.xc_elements.proofs.Grammar.Names.{Stops, IsRun, run_read, run_spelled, NameRead, EndsName, qualified_name_read, qualified_name_spelled, by_space, space_ends_name, spaces_end_name}
-use Rattle.xc_elements.proofs.Grammar.Sequences.{Step, Steps, sequence_read, sequence_spelled}
+use Rattle.xc_elements.proofs.Grammar.Kinds.{as_start, as_empty}
+use Rattle.xc_elements.proofs.Grammar.Names.{IsRun, run_read, run_spelled, NameRead, EndsName, qualified_name_read, qualified_name_spelled, by_space, space_ends_name, spaces_end_name}
+use Rattle.xc_elements.proofs.Grammar.Sequences.{Steps, sequence_read, sequence_spelled}
 use Rattle.xc_elements.proofs.Grammar.Shapes.{chosen_front, shape_of}
 
 -- what closes a tag

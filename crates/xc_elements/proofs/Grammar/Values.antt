@@ -1,17 +1,17 @@
 -- A value is read exactly where the text begins with what is written for it.
-use Rattle.std.proofs.Common.{◌≡◌, ◌≢◌, ℕ, Bool, true, false, cond, List, [], ◌∷◌, ◌++◌, map, Option, Some, None, refl, sym, ap, ◌∙◌, ◌⊎◌, subst, inl, inr, append_assoc, eqb-true, eq-eqb, ne_eqb}
+use Rattle.std.proofs.Common.{◌≡◌, ◌≢◌, ℕ, true, false, cond, List, [], ◌∷◌, ◌++◌, map, Some, refl, sym, ap, ◌∙◌, subst, inl, inr, append_assoc, eqb-true, eq-eqb, ne_eqb}
 use Rattle.std.specs.Prelude.{codes, ◌↔◌, ◌==◌, ◌&&◌, ◌||◌, not}
-use Rattle.std.proofs.lemmas.Bool.{and_from, and_parts, or_cases, or_parts, not-true}
+use Rattle.std.proofs.lemmas.Bool.{and_parts, or_cases, or_parts, not-true}
 use Rattle.xc_chars.specs.Characters.{is_character}
 use Rattle.xc_elements.specs.Fronts.{Front, followed_by, ◌>>=◌, give, refuse, one, by_next, past, Turn, More, Last, sequence}
-use Rattle.xc_elements.specs.Items.{reference, line_end, value_turn_at, value_turn, value_until}
+use Rattle.xc_elements.specs.Items.{reference, line_end, value_turn, value_until}
 use Rattle.xc_elements.specs.Grammar.Values.{IsQuote, Written, Plain, White, LineEnd, Referred, characters_of, meant_by, IsPlain, BeginsWithFeed, IsWhite, MayStand, Stands, AreWritten, IsValue}
 use Rattle.xc_elements.proofs.FrontLaws.{found, split, same_answer}
 use Rattle.xc_elements.proofs.ItemLaws.{value_turns, line_end_goes_on}
 use Rattle.xc_elements.specs.Grammar.References.{StandsFor}
 use Rattle.xc_elements.proofs.SequenceLaws.{GoesOn, give_goes_on, refuse_goes_on, then_goes_on, if_goes_on}
-use Rattle.xc_elements.proofs.Grammar.References.{reference_read, reference_spelled, ReferenceRead}
-use Rattle.xc_elements.proofs.Grammar.Sequences.{Step, Steps, sequence_read, sequence_spelled}
+use Rattle.xc_elements.proofs.Grammar.References.{reference_read, reference_spelled}
+use Rattle.xc_elements.proofs.Grammar.Sequences.{Steps, sequence_read, sequence_spelled}
 use Rattle.xc_elements.proofs.Grammar.Shapes.{chosen_front}
 
 -- a character of a value

@@ -1,6 +1,6 @@
 -- Attributes: XML 1.0, section 3.1, with names of Namespaces in XML 1.0, section 4.
-use Rattle.std.specs.Prelude.{◌≡◌, ◌≢◌, ◌↔◌, ℕ, Bool, List, [], ◌∷◌, ◌++◌, Some, codes}
-use Rattle.xc_elements.specs.Items.{Name, Pair, attribute}
+use Rattle.std.specs.Prelude.{◌≡◌, ◌↔◌, ℕ, List, ◌∷◌, ◌++◌, Some, codes}
+use Rattle.xc_elements.specs.Items.{Pair, attribute}
 use Rattle.xc_elements.specs.Grammar.Words.{AreSpaces, IsName}
 use Rattle.xc_elements.specs.Grammar.Values.{IsQuote, IsValue}
 

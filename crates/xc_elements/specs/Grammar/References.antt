@@ -1,5 +1,5 @@
 -- References to characters and to predefined entities: XML 1.0, sections 4.1 and 4.6.
-use Rattle.std.specs.Prelude.{◌≡◌, ◌≢◌, ◌↔◌, ◌⊎◌, ℕ, ◌+◌, ◌*◌, ◌^◌, ◌<◌, Bool, true, List, [], ◌∷◌, ◌++◌, length, Some, codes}
+use Rattle.std.specs.Prelude.{◌≡◌, ◌≢◌, ◌↔◌, ℕ, ◌+◌, ◌*◌, ◌^◌, Bool, true, List, [], ◌∷◌, ◌++◌, length, Some, codes}
 use Rattle.std.specs.Char.{digit_value, is_digit}
 use Rattle.xc_chars.specs.Characters.{is_character}
 use Rattle.xc_elements.specs.Items.{Reference, item}

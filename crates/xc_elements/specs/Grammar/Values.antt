@@ -1,6 +1,6 @@
 -- Values of attributes: XML 1.0, sections 2.3, 2.11 and 3.3.3.
-use Rattle.std.specs.Prelude.{◌≡◌, ◌≢◌, ◌↔◌, ◌⊎◌, ℕ, Bool, true, List, [], ◌∷◌, ◌++◌, map, Some, codes}
-use Rattle.xc_chars.specs.Characters.{is_character, is_space}
+use Rattle.std.specs.Prelude.{◌≡◌, ◌≢◌, ◌↔◌, ◌⊎◌, ℕ, true, List, [], ◌∷◌, ◌++◌, map, Some, codes}
+use Rattle.xc_chars.specs.Characters.{is_character}
 use Rattle.xc_elements.specs.Items.{value_until}
 use Rattle.xc_elements.specs.Grammar.References.{StandsFor}
 

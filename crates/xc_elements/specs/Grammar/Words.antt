@@ -1,5 +1,5 @@
 -- The words in which the rows of the grammar of XML 1.0 are said.
-use Rattle.std.specs.Prelude.{◌≡◌, ◌≢◌, ◌⊎◌, ℕ, Bool, true, false, List, [], ◌∷◌, ◌++◌, codes}
+use Rattle.std.specs.Prelude.{◌≡◌, ◌⊎◌, ℕ, Bool, true, List, [], ◌∷◌, ◌++◌, codes}
 use Rattle.xc_chars.specs.Characters.{is_character, is_space, is_name_start, is_name_char}
 use Rattle.xc_elements.specs.Items.{Name}
 

@@ -1,3 +1,4 @@
+mod AttributeSets
 pub mod Drawing
 pub mod Filtered
 pub mod Integers

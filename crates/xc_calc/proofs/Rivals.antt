@@ -1,6 +1,6 @@
 -- Arcs that are compared with one stand among those that have in common with it what equivalent ones have.
 use Rattle.std.proofs.Common.{◌≡◌, ◌==◌, ◌&&◌, ◌||◌, ◌++◌, ℕ, List, [], ◌∷◌, Bool, true, false, not, take, map, filter, true≢false, refl, sym, ap, ◌∙◌, if◌then◌else◌}
-use Rattle.std.proofs.lemmas.Bool.{and_parts}
+use Rattle.std.proofs.lemmas.Bool.{and_from, and_parts}
 use Rattle.std.proofs.lemmas.List.{map-append}
 use Rattle.std.proofs.lemmas.List.Elements.{filter-append}
 use Rattle.std.proofs.lemmas.Map.Text.{is_eq-slice_cmp}
@@ -9,7 +9,9 @@ use Rattle.std.specs.Ordering.{nat_cmp, int_cmp, is_eq, ordering_then, int_eq}
 use Rattle.std.specs.Prelude.{int_lt}
 use Rattle.std.specs.Str.{bytes_eq}
 use Rattle.xc_calc.specs.Effective.{are_same, is_same_number, is_equivalent, is_prohibited, is_higher, is_rival, is_barred_by, is_effective}
-use Rattle.xc_calc.specs.Steps.{number_of, by_number, is_number, by_common, IsCommonOf, has_common, is_effective_among}
+use Rattle.xc_calc.proofs.AttributeSets.{compared_by, itself, one_set}
+use Rattle.xc_calc.specs.Steps.{number_of, by_number, is_number, by_common, IsCommonOf, has_common, has_others, is_effective_among}
+use Rattle.xc_calc.specs.Steps.Sets.{attribute_of, by_attribute, by_compared, in_order}
 use Rattle.xc_calc.specs.declared.effective.Common.{Common}
 use Rattle.xc_calc.specs.declared.effective.Number.{Number}
 use Rattle.xc_decimal.specs.Shortest.{Shortest}
@@ -29,18 +31,23 @@ found_among p t within (x ∷ xs) = by (p x) (t x) refl refl (found_among p t wi
     by true false e f rest = absurd (true≢false (sym (within x e) ∙ f))
     by false false e f rest = rest
 
-along : (a b c d e : Bool) → (a && (b && (c && (d && e)))) ≡ (a && b && c && d && e)
-along false b c d e = refl
-along true false c d e = refl
-along true true false d e = refl
-along true true true false e = refl
-along true true true true e = refl
+along : (a b c d e f : Bool) → (a && (b && (c && (d && (e && f))))) ≡ (a && b && c && d && e && f)
+along false b c d e f = refl
+along true false c d e f = refl
+along true true false d e f = refl
+along true true true false e f = refl
+along true true true true false f = refl
+along true true true true true f = refl
 
 same_number : (m n : Number) (d : Shortest) → n ≡ number_of d → is_eq (by_number m n) ≡ is_number m d
 same_number m n d is =
     ap (λ n. is_eq (by_number m n)) is
     ∙ is_eq-then (int_cmp m.digits d.digits) (nat_cmp m.places d.places)
     ∙ ap (λ b. int_eq m.digits d.digits && b) (is_eq-nat_cmp m.places d.places)
+
+-- lists of attributes are equal where the one is the set of an arc that has the other
+same_others : (q key : Common) (a : ListedArc) → map attribute_of key.others.now ≡ in_order a.others → is_eq (slice_cmp by_compared q.others.now key.others.now) ≡ has_others q a
+same_others q key a is = ap is_eq (compared_by q.others.now key.others.now ∙ ap (slice_cmp by_attribute (map attribute_of q.others.now)) is)
 
 -- keys are equal where the one is that of an arc that has the other in common
 same_common : (q key : Common) (a : ListedArc) → IsCommonOf key a → is_eq (by_common q key) ≡ has_common q a
@@ -50,16 +57,19 @@ same_common q key a is =
     let role = slice_cmp nat_cmp q.role.now key.role.now in
     let weight = by_number q.weight key.weight in
     let order = by_number q.order key.order in
-    is_eq-then from (ordering_then to (ordering_then role (ordering_then weight order)))
-    ∙ ap (λ b. is_eq from && b) (is_eq-then to (ordering_then role (ordering_then weight order)))
-    ∙ ap (λ b. is_eq from && (is_eq to && b)) (is_eq-then role (ordering_then weight order))
-    ∙ ap (λ b. is_eq from && (is_eq to && (is_eq role && b))) (is_eq-then weight order)
-    ∙ along (is_eq from) (is_eq to) (is_eq role) (is_eq weight) (is_eq order)
-    ∙ ap (λ b. b && is_eq to && is_eq role && is_eq weight && is_eq order) (is_eq-nat_cmp q.from.0 key.from.0 ∙ ap (λ x. q.from.0 == x.0) is.from)
-    ∙ ap (λ b. (q.from.0 == a.arc.from.0) && b && is_eq role && is_eq weight && is_eq order) (is_eq-nat_cmp q.to.0 key.to.0 ∙ ap (λ x. q.to.0 == x.0) is.to)
-    ∙ ap (λ b. (q.from.0 == a.arc.from.0) && (q.to.0 == a.arc.to.0) && b && is_eq weight && is_eq order) (is_eq-slice_cmp q.role.now key.role.now ∙ ap (bytes_eq q.role.now) is.role)
-    ∙ ap (λ b. (q.from.0 == a.arc.from.0) && (q.to.0 == a.arc.to.0) && bytes_eq q.role.now a.role && b && is_eq order) (same_number q.weight key.weight a.arc.weight is.weight)
-    ∙ ap (λ b. (q.from.0 == a.arc.from.0) && (q.to.0 == a.arc.to.0) && bytes_eq q.role.now a.role && is_number q.weight a.arc.weight && b) (same_number q.order key.order a.order is.order)
+    let others = slice_cmp by_compared q.others.now key.others.now in
+    is_eq-then from (ordering_then to (ordering_then role (ordering_then weight (ordering_then order others))))
+    ∙ ap (λ b. is_eq from && b) (is_eq-then to (ordering_then role (ordering_then weight (ordering_then order others))))
+    ∙ ap (λ b. is_eq from && (is_eq to && b)) (is_eq-then role (ordering_then weight (ordering_then order others)))
+    ∙ ap (λ b. is_eq from && (is_eq to && (is_eq role && b))) (is_eq-then weight (ordering_then order others))
+    ∙ ap (λ b. is_eq from && (is_eq to && (is_eq role && (is_eq weight && b)))) (is_eq-then order others)
+    ∙ along (is_eq from) (is_eq to) (is_eq role) (is_eq weight) (is_eq order) (is_eq others)
+    ∙ ap (λ b. b && is_eq to && is_eq role && is_eq weight && is_eq order && is_eq others) (is_eq-nat_cmp q.from.0 key.from.0 ∙ ap (λ x. q.from.0 == x.0) is.from)
+    ∙ ap (λ b. (q.from.0 == a.arc.from.0) && b && is_eq role && is_eq weight && is_eq order && is_eq others) (is_eq-nat_cmp q.to.0 key.to.0 ∙ ap (λ x. q.to.0 == x.0) is.to)
+    ∙ ap (λ b. (q.from.0 == a.arc.from.0) && (q.to.0 == a.arc.to.0) && b && is_eq weight && is_eq order && is_eq others) (is_eq-slice_cmp q.role.now key.role.now ∙ ap (bytes_eq q.role.now) is.role)
+    ∙ ap (λ b. (q.from.0 == a.arc.from.0) && (q.to.0 == a.arc.to.0) && bytes_eq q.role.now a.role && b && is_eq order && is_eq others) (same_number q.weight key.weight a.arc.weight is.weight)
+    ∙ ap (λ b. (q.from.0 == a.arc.from.0) && (q.to.0 == a.arc.to.0) && bytes_eq q.role.now a.role && is_number q.weight a.arc.weight && b && is_eq others) (same_number q.order key.order a.order is.order)
+    ∙ ap (λ b. (q.from.0 == a.arc.from.0) && (q.to.0 == a.arc.to.0) && bytes_eq q.role.now a.role && is_number q.weight a.arc.weight && is_number q.order a.order && b) (same_others q key a is.others)
 
 -- an arc that is put last has the list of its key one longer, and no other
 pub put_in_common : (arcs : List ListedArc) (d : Bor ListedArc) (q key : Common) (old new : List (Bor ListedArc)) → IsCommonOf key d.now
@@ -80,12 +90,19 @@ put_in_common arcs d q key old new is so_far put =
     chosen false = refl
 
 module _ (key : Common) (a b : ListedArc) (is : IsCommonOf key a) where
+  -- arcs with the same other attributes have one set
+  own_others : are_same a.others b.others ≡ true → has_others key b ≡ true
+  own_others h = ap (λ l. is_eq (slice_cmp by_attribute l (in_order b.others))) (is.others ∙ one_set a.others b.others h) ∙ itself (in_order b.others)
+
   -- equivalent arcs have this in common
   equivalent_common : is_equivalent a b ≡ true → has_common key b ≡ true
   equivalent_common h =
       let ends = (a.arc.from.0 == b.arc.from.0) && (a.arc.to.0 == b.arc.to.0) in
       let common = ends && bytes_eq a.role b.role && is_same_number a.arc.weight b.arc.weight && is_same_number a.order b.order in
-      rw (is.from, is.to, is.role, is.weight, is.order) (and_parts common (are_same a.others b.others) h).0
+      let parts = and_parts common (are_same a.others b.others) h in
+      let numbers = (key.from.0 == b.arc.from.0) && (key.to.0 == b.arc.to.0) && bytes_eq key.role.now b.role && is_number key.weight b.arc.weight && is_number key.order b.order in
+      let same : numbers ≡ true = rw (is.from, is.to, is.role, is.weight, is.order) parts.0 in
+      and_from numbers (has_others key b) same (own_others parts.1)
 
   higher_common : is_higher a b ≡ true → has_common key b ≡ true
   higher_common h = equivalent_common (and_parts (is_equivalent a b) (int_lt a.priority b.priority) h).0

@@ -7,6 +7,7 @@ ghost use Rattle.xc_calc.specs.declared.arc.ListedArc.{ListedArc};
 
 use crate::arc::{ListedArc, Use};
 use crate::groups::{list_of, put_last};
+use crate::keyed::{Compared, SetArc, keyed_arcs};
 use std::alloc::Global;
 use std::collections::BTreeMap;
 use xc_decimal::Decimal;
@@ -21,7 +22,7 @@ pub(crate) struct Number {
     pub places: u32,
 }
 
-/// What equivalent arcs have in common, their other attributes aside.
+/// What equivalent arcs have in common.
 #[derive(Clone, Copy, PartialEq, Eq, PartialOrd, Ord)]
 pub(crate) struct Common<'a> {
     pub from: NameId,
@@ -29,6 +30,7 @@ pub(crate) struct Common<'a> {
     pub role: &'a str,
     pub weight: Number,
     pub order: Number,
+    pub others: &'a [Compared<'a>],
 }
 
 fn is_same_number(a: Decimal, b: Decimal) -> bool
@@ -130,35 +132,37 @@ fn number_of(number: Decimal) -> Number
 }
 
 // What an arc has in common with those that are equivalent.
-fn common_of(a: &ListedArc) -> Common<'_>
-    ensures { IsCommonOf result a.now }
+fn common_of<'b>(keyed: &'b SetArc<'_>) -> Common<'b>
+    ensures { IsCommonOf result keyed.now }
 {
+    let a = keyed.arc();
     Common {
         from: a.arc.from,
         to: a.arc.to,
         role: a.role(),
         weight: number_of(a.arc.weight),
         order: number_of(a.order),
+        others: keyed.others(),
     }
 }
 
 // Puts an arc behind those with which it has all in common.
-fn put_arc<'a>(
+fn put_arc<'b>(
     alloc: Global,
-    lists: &mut BTreeMap<Common<'a>, Vec<&'a ListedArc>>,
-    a: &'a ListedArc,
+    lists: &mut BTreeMap<Common<'b>, Vec<&'b ListedArc>>,
+    a: &'b SetArc<'_>,
 ) -> Result<(), Memory>
     ensures { OnOk result ((arcs : List ListedArc) → AreByCommon lists.old arcs → AreByCommon lists.new (arcs ++ a.now ∷ [])) }
 {
-    put_last(alloc, lists, common_of(a), a)?;
+    put_last(alloc, lists, common_of(a), a.arc())?;
     Ok(())
 }
 
 // The arcs of a list by what equivalent ones have in common.
-fn by_common<'a>(
+fn by_common<'b>(
     alloc: Global,
-    arcs: &'a [ListedArc],
-) -> Result<BTreeMap<Common<'a>, Vec<&'a ListedArc>>, Memory>
+    arcs: &'b [SetArc<'_>],
+) -> Result<BTreeMap<Common<'b>, Vec<&'b ListedArc>>, Memory>
     ensures { IfOk result (λ lists. AreByCommon lists arcs.now) }
 {
     let mut lists = BTreeMap::new(alloc);
@@ -181,21 +185,21 @@ fn is_effective_among(rivals: &[&ListedArc], earlier: &[&ListedArc], a: &ListedA
 
 // Whether an arc is effective among all arcs, of which some stand before it. It is compared with those
 // alone that have in common with it what equivalent ones have.
-fn is_effective<'a>(
-    all: &BTreeMap<Common<'a>, Vec<&'a ListedArc>>,
-    earlier: &BTreeMap<Common<'a>, Vec<&'a ListedArc>>,
-    a: &'a ListedArc,
+fn is_effective<'b>(
+    all: &BTreeMap<Common<'b>, Vec<&'b ListedArc>>,
+    earlier: &BTreeMap<Common<'b>, Vec<&'b ListedArc>>,
+    a: &'b SetArc<'_>,
 ) -> bool
     ensures { (arcs : List ListedArc) (at : ℕ) → AreByCommon all.now arcs → AreByCommon earlier.now (take at arcs) → result ≡ is_effective arcs at a.now }
 {
     let key = common_of(a);
-    is_effective_among(list_of(all, &key), list_of(earlier, &key), a)
+    is_effective_among(list_of(all, &key), list_of(earlier, &key), a.arc())
 }
 
-/// The effective arcs of a list, in its order.
-pub(crate) fn effective_arcs<'a>(
+// The effective ones of these arcs, in their order.
+fn effective_among<'a, 'b>(
     alloc: Global,
-    arcs: &'a [ListedArc],
+    arcs: &'b [SetArc<'a>],
 ) -> Result<Vec<&'a ListedArc>, Memory>
     ensures { IfOk result (λ effective. map (λ a. a.now) effective.items ≡ effective_arcs arcs.now) }
 {
@@ -206,8 +210,19 @@ pub(crate) fn effective_arcs<'a>(
         let kept = is_effective(&all, &earlier, a);
         put_arc(alloc, &mut earlier, a)?;
         if kept {
-            effective.push(a)?;
+            effective.push(a.arc())?;
         }
     }
     Ok(effective)
+}
+
+/// The effective arcs of a list, in its order.
+pub(crate) fn effective_arcs<'a>(
+    alloc: Global,
+    arcs: &'a [ListedArc],
+) -> Result<Vec<&'a ListedArc>, Memory>
+    ensures { IfOk result (λ effective. map (λ a. a.now) effective.items ≡ effective_arcs arcs.now) }
+{
+    let keyed = keyed_arcs(alloc, arcs)?;
+    effective_among(alloc, keyed.as_slice())
 }

@@ -11,6 +11,7 @@ mod elements;
 mod ends;
 mod fault;
 mod groups;
+mod keyed;
 pub mod laws;
 mod linked;
 mod locators;

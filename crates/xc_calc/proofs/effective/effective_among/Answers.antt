@@ -5,8 +5,8 @@ use Rattle.xc_calc.specs.Effective.{effective_at, is_effective}
 use Rattle.xc_calc.specs.Steps.{has_common}
 use Rattle.xc_lists.proofs.Ranges.{gathered_more}
 use Rattle.xc_lists.specs.Places.{before}
-use Rattle.xc_calc.proofs.effective.effective_arcs.Goals.{then-kept+in_ok-push, else-kept}
-use Rattle.xc_calc.proofs.effective.effective_arcs.Goals as goal
+use Rattle.xc_calc.proofs.effective.effective_among.Goals.{then-kept+in_ok-push, else-kept}
+use Rattle.xc_calc.proofs.effective.effective_among.Goals as goal
 
 pub loop-at-preserved : goal.loop-at-preserved
 loop-at-preserved c =
@@ -25,6 +25,7 @@ loop-at-preserved c =
             ap (λ v. map (λ a. a.now) v.items) w.effective-is
             ∙ ap (map (λ a. a.now)) w.in_ok-push.ensures.items
             ∙ map-append (λ a. a.now) c.loop-at.effective.items _
+            ∙ ap (λ x. map (λ a. a.now) c.loop-at.effective.items ++ x ∷ []) w.arc.ensures
             ∙ ap (λ xs. xs ++ item ∷ []) c.loop-at.invariant.effective
             ∙ ap (λ o. so_far ++ option_to_list o) (sym (here ∙ ap (λ b. if b then Some item else None) (sym kept ∙ w.if-kept.true)))
             ∙ sym (gathered_more given at)

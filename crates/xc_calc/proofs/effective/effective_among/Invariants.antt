@@ -2,7 +2,7 @@ use Rattle.std.proofs.Common.{◌≡◌, map, take, filter_map}
 use Rattle.xc_calc.specs.Effective.{effective_at}
 use Rattle.xc_calc.specs.Steps.{AreByCommon}
 use Rattle.xc_lists.specs.Places.{before}
-use Rattle.xc_calc.proofs.effective.effective_arcs.Given as goal
+use Rattle.xc_calc.proofs.effective.effective_among.Given as goal
 
 -- the effective ones of the arcs so far, and these by their ends
 abbrev pub invariant-loop-at : goal.invariant-loop-at

@@ -17,6 +17,7 @@ use Rattle.xc_top.specs.declared.status.Answer.{Answer}
 use Rattle.xc_top.specs.declared.status.Status.{Status}
 use Rattle.xc_top.specs.declared.status.Status.TheVariants.{Refused, ReadFault}
 
+-- this text is written, and the run ends so
 abbrev pub make_answer : Status → List ℕ → Answer
 make_answer s text = record { status = s; text = text }
 

@@ -21,6 +21,7 @@ abbrev pub unfetched_of : List ℕ → Option (List ℕ) → Option Answer
 unfetched_of word None = Some (unread word)
 unfetched_of word (Some bytes) = if nat_lt limit (length bytes) then Some (refused word (codes "xc:tooLong")) else None
 
+-- the same of a word over these files
 abbrev pub unfetched : Files → List ℕ → Option Answer
 unfetched files word = unfetched_of word (files word)
 

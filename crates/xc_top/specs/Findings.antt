@@ -27,18 +27,21 @@ use Rattle.xc_verdict.specs.Verdicts.{IsVerdict}
 
 -- ---- verdicts
 
+-- a total disagrees with its contributors
 abbrev pub is_inconsistent : Verdict → Bool
 is_inconsistent verdict.Consistent = false
 is_inconsistent verdict.Inconsistent = true
 is_inconsistent verdict.Unjudged = false
 is_inconsistent verdict.TooWide = false
 
+-- a binding passes the widths in which verdicts are computed
 abbrev pub is_too_wide : Verdict → Bool
 is_too_wide verdict.Consistent = false
 is_too_wide verdict.Inconsistent = false
 is_too_wide verdict.Unjudged = false
 is_too_wide verdict.TooWide = true
 
+-- no value satisfies all facts of a data point: duplicates disagree
 abbrev pub is_empty_point : Point → Bool
 is_empty_point point = is_empty_range point.range
 

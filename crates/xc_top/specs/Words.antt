@@ -77,6 +77,7 @@ mode_of word = if bytes_eq word (codes "rounding") then Some Rounding else if by
 abbrev pub is_sum : List ℕ → List ℕ → List (List ℕ) → Bool
 is_sum report total terms = is_file_word report && is_name_word total && are_terms terms
 
+-- these words of `sum`, in this mode
 abbrev pub make_sum : List ℕ → List ℕ → List (List ℕ) → Mode → SumWords
 make_sum report total terms mode = record { mode = mode; report = report; total = total; terms = terms }
 
@@ -85,6 +86,7 @@ abbrev pub sum_of : List (List ℕ) → Option SumWords
 sum_of (mode ∷ report ∷ total ∷ terms) = if is_sum report total terms then option_map (make_sum report total terms) (mode_of mode) else None
 sum_of _ = None
 
+-- these words of `check`, in this mode
 abbrev pub make_check : ArcKind → List ℕ → List (List ℕ) → Mode → CheckWords
 make_check kind report documents mode = record { kind = kind; mode = mode; report = report; documents = documents }
 
@@ -102,6 +104,7 @@ arcs_chosen (word ∷ words) = if bytes_eq word (codes "--old-arcs") then (Old, 
 abbrev pub check_of : List (List ℕ) → Option CheckWords
 check_of words = check_of_kind (arcs_chosen words).0 (arcs_chosen words).1
 
+-- this certificate, judged over these words of `check`
 abbrev pub make_verify : List ℕ → CheckWords → VerifyWords
 make_verify certificate over = record { certificate = certificate; over = over }
 

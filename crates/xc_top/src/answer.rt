@@ -25,12 +25,12 @@ pub fn answer_command<S: Shelf>(
     ensures ends { IfOk result (λ answer. IsEnding answer.status) }
     ensures left { Leaves S.held S.steady S.faults S.fetches shelf.old shelf.new (length (file_words (named command.now))) }
 {
-    settled(answer_of(alloc, command, shelf))
+    answer_in(answer_of(alloc, command, shelf))
 }
 
 // What was answered, also where the run was stopped.
-fn settled(answer: Result<Answer, Stop>) -> Result<Answer, Memory>
-    ensures { IfOk result (λ settled. IsAnswerIn answer settled) }
+fn answer_in(answer: Result<Answer, Stop>) -> Result<Answer, Memory>
+    ensures { IfOk result (λ given. IsAnswerIn answer given) }
 {
     match answer {
         Ok(answer) => Ok(answer),

@@ -5,7 +5,7 @@ ghost use Rattle.xc_top.specs.Documents.{limit, AreFetched, IsContentOf, root_re
 ghost use Rattle.xc_top.specs.Steps.Fetches.{IsUnfetched, Leaves};
 ghost use Rattle.xc_top.specs.Words.{texts};
 
-use crate::refusals::{refused, tree_refusal, unread};
+use crate::refusals::{coded_refusal, read_fault, tree_refusal};
 use crate::status::Stop;
 use std::alloc::Global;
 use xc_calc::is_linkbase;
@@ -44,9 +44,9 @@ pub fn fetch<S: Shelf>(alloc: Global, word: &str, shelf: &mut S) -> Result<Vec<u
 {
     match shelf.fetch(word, LIMIT) {
         Ok(bytes) => Ok(bytes),
-        Err(ShelfFault::TooLong) => Err(refused(alloc, word, "xc:tooLong")),
+        Err(ShelfFault::TooLong) => Err(coded_refusal(alloc, word, "xc:tooLong")),
         Err(ShelfFault::Memory) => Err(Stop::Memory),
-        Err(ShelfFault::Failed) => Err(unread(alloc, word)),
+        Err(ShelfFault::Failed) => Err(read_fault(alloc, word)),
     }
 }
 
@@ -104,29 +104,29 @@ fn content_of(alloc: Global, bytes: &[u8]) -> Result<Content, Memory>
 }
 
 /// Sees to it that each document is a schema or a linkbase.
-pub fn are_taxonomies(alloc: Global, documents: &[Document]) -> Result<(), Stop>
+pub fn require_taxonomies(alloc: Global, documents: &[Document]) -> Result<(), Stop>
     ensures read { OnOk result (first_unread documents.now ≡ None) }
     ensures refused { IfStopped result (λ answer. first_unread documents.now ≡ Some answer) }
     ensures status { IfStopped result (λ answer. IsSettled answer.status) }
 {
     for document in documents {
-        is_taxonomy(alloc, document)?;
+        require_taxonomy(alloc, document)?;
     }
     Ok(())
 }
 
-fn is_taxonomy(alloc: Global, document: &Document) -> Result<(), Stop>
+fn require_taxonomy(alloc: Global, document: &Document) -> Result<(), Stop>
     ensures read { OnOk result (document_refusal document.now ≡ None) }
     ensures refused { IfStopped result (λ answer. document_refusal document.now ≡ Some answer) }
     ensures status { IfStopped result (λ answer. IsSettled answer.status) }
 {
     match &document.content {
-        Content::Elements(tree) => has_known_root(alloc, document.word.as_str(), tree),
+        Content::Elements(tree) => require_known_root(alloc, document.word.as_str(), tree),
         Content::Broken(fault) => Err(tree_refusal(alloc, document.word.as_str(), *fault)),
     }
 }
 
-fn has_known_root(alloc: Global, word: &str, tree: &Tree) -> Result<(), Stop>
+fn require_known_root(alloc: Global, word: &str, tree: &Tree) -> Result<(), Stop>
     ensures read { OnOk result (root_refusal word.now tree.now ≡ None) }
     ensures refused { IfStopped result (λ answer. root_refusal word.now tree.now ≡ Some answer) }
     ensures status { IfStopped result (λ answer. IsSettled answer.status) }
@@ -134,6 +134,6 @@ fn has_known_root(alloc: Global, word: &str, tree: &Tree) -> Result<(), Stop>
     if is_schema(tree) || is_linkbase(tree) {
         Ok(())
     } else {
-        Err(refused(alloc, word, "xc:notTaxonomy"))
+        Err(coded_refusal(alloc, word, "xc:notTaxonomy"))
     }
 }

@@ -8,7 +8,7 @@ ghost use Rattle.xc_top.specs.Steps.Views.{asked};
 use crate::certified::answer_certificate;
 use crate::found::answer_findings;
 use crate::joint::answer_joint;
-use crate::refusals::{refused, report_refusal};
+use crate::refusals::{coded_refusal, report_refusal};
 use crate::status::{Answer, Stop};
 use std::alloc::Global;
 use xc_calc::Network;
@@ -50,13 +50,13 @@ pub fn answer_facts(
     ensures settles { Answers result (λ answer. IsSettled answer.status) }
 {
     match draft.facts(names, wanted) {
-        Ok(report) => answer_report(alloc, question, &report, networks),
+        Ok(report) => answer_question(alloc, question, &report, networks),
         Err(fault) => Err(report_refusal(alloc, question.report, &fault)),
     }
 }
 
 // What is sought in a report, where its facts are not too many for the networks.
-fn answer_report(
+fn answer_question(
     alloc: Global,
     question: &Question<'_>,
     report: &Report,
@@ -66,7 +66,7 @@ fn answer_report(
     ensures settles { Answers result (λ answer. IsSettled answer.status) }
 {
     if are_too_many(report.facts.as_slice().len(), networks.len()) {
-        return Err(refused(alloc, question.report, "xc:tooMany"));
+        return Err(coded_refusal(alloc, question.report, "xc:tooMany"));
     }
     match question.goal {
         Goal::Findings => Ok(answer_findings(alloc, question.mode, report, networks)?),

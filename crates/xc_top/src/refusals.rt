@@ -26,7 +26,7 @@ fn stop_with(status: Status, line: String) -> Stop
 }
 
 /// A file that could not be read.
-pub fn unread(alloc: Global, word: &str) -> Stop
+pub fn read_fault(alloc: Global, word: &str) -> Stop
     ensures { IfNamed result (λ answer. answer ≡ unread word.now) }
 {
     match read_fault_line(alloc, word) {
@@ -36,7 +36,7 @@ pub fn unread(alloc: Global, word: &str) -> Stop
 }
 
 /// A document that is refused.
-pub fn refused(alloc: Global, word: &str, code: &str) -> Stop
+pub fn coded_refusal(alloc: Global, word: &str, code: &str) -> Stop
     ensures answer { IfNamed result (λ answer. answer ≡ refused word.now code.now) }
     ensures status { IfNamed result (λ answer. IsSettled answer.status) }
 {
@@ -47,7 +47,7 @@ pub fn refused(alloc: Global, word: &str, code: &str) -> Stop
 }
 
 /// A document that is refused, with the place of the fault in it.
-pub fn refused_at(alloc: Global, word: &str, code: &str, place: &str) -> Stop
+pub fn placed_refusal(alloc: Global, word: &str, code: &str, place: &str) -> Stop
     ensures answer { IfNamed result (λ answer. answer ≡ refused_at word.now code.now place.now) }
     ensures status { IfNamed result (λ answer. IsSettled answer.status) }
 {
@@ -67,8 +67,8 @@ fn refusal(alloc: Global, word: &str, code: Option<&'static str>, place: Option<
         return Stop::Memory;
     };
     match place {
-        Some(place) => refused_at(alloc, word, code, place),
-        None => refused(alloc, word, code),
+        Some(place) => placed_refusal(alloc, word, code, place),
+        None => coded_refusal(alloc, word, code),
     }
 }
 

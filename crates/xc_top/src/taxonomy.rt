@@ -7,7 +7,7 @@ ghost use Rattle.xc_top.specs.Steps.Stops.{IfStopped, IsSettled};
 ghost use Rattle.xc_top.specs.Steps.Added.{IsAdded, broken_beside};
 ghost use Rattle.xc_top.specs.Taxonomies.{AreSchemasOf, IsTaxonomyOf, IsTaxonomyRefusal, schemas_in, linkbases_in, schema_in, linkbase_in, schema_broken, link_broken, first_schema_broken, first_link_broken, arcs_of, part_of};
 
-use crate::documents::{Content, Document, are_taxonomies};
+use crate::documents::{Content, Document, require_taxonomies};
 use crate::refusals::{link_refusal, schema_refusal};
 use crate::status::Stop;
 use std::alloc::Global;
@@ -140,7 +140,7 @@ pub fn taxonomy_of(alloc: Global, kind: ArcKind, documents: &[Document]) -> Resu
     ensures refused { IfStopped result (λ answer. IsTaxonomyRefusal kind documents.now answer) }
     ensures status { IfStopped result (λ answer. IsSettled answer.status) }
 {
-    are_taxonomies(alloc, documents)?;
+    require_taxonomies(alloc, documents)?;
     let mut names = Names::new(alloc);
     let concepts = add_schemas(alloc, &mut names, documents)?;
     let arcs = add_linkbases(alloc, kind, &concepts, documents)?;

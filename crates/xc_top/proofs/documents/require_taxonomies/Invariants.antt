@@ -1,6 +1,6 @@
 use Rattle.std.proofs.Common.{◌≡◌, drop}
 use Rattle.xc_top.specs.Documents.{first_unread}
-use Rattle.xc_top.proofs.documents.are_taxonomies.Given as goal
+use Rattle.xc_top.proofs.documents.require_taxonomies.Given as goal
 
 -- the first refusal of the documents that are left is the first of all
 abbrev pub invariant-loop-document : goal.invariant-loop-document

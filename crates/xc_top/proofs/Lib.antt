@@ -1,4 +1,5 @@
 pub mod Accepted
+pub mod Beside
 pub mod Fetched
 pub mod Few
 pub mod Judging

@@ -18,8 +18,10 @@ use Rattle.xc_concepts.specs.declared.schema.Schema.{Schema}
 use Rattle.xc_elements.specs.declared.nodes.Node.{Node}
 use Rattle.xc_names.specs.Names.{number_of}
 use Rattle.xc_names.specs.declared.expanded.Expanded.{Expanded}
+use Rattle.xc_top.proofs.Beside.{by_places}
 use Rattle.xc_top.proofs.Renaming.{IsRenaming, renamed_concept, renamed_schema}
 use Rattle.xc_top.specs.Answers.{schema_refusal}
+use Rattle.xc_top.specs.Steps.Added.{first_broken_beside}
 use Rattle.xc_top.specs.Taxonomies.{Part, AreSchemasOf, schema_broken, first_schema_broken}
 
 -- what holds of all elements of two lists holds of all of each
@@ -68,13 +70,13 @@ module _ (f : ℕ → ℕ) where
   broken_renamed earlier part = λ i. option_and_then (schema_refusal part.word) (broken_by (files_renamed f earlier (file_name part.word) i) (names_renamed f earlier i) part.nodes)
 
   -- the rules ask for no numbers
-  first_renamed : (earlier : List Schema) (parts : List Part) (schemas : List Schema) → first_schema_broken (map (renamed_schema f) earlier) parts (map (renamed_schema f) schemas) ≡ first_schema_broken earlier parts schemas
+  first_renamed : (earlier : List Schema) (parts : List Part) (schemas : List Schema) → first_broken_beside (map (renamed_schema f) earlier) parts (map (renamed_schema f) schemas) ≡ first_broken_beside earlier parts schemas
   first_renamed earlier [] schemas = refl
   first_renamed earlier (part ∷ parts) [] = broken_renamed earlier part
   first_renamed earlier (part ∷ parts) (s ∷ schemas) =
       let more : map (renamed_schema f) earlier ++ renamed_schema f s ∷ [] ≡ map (renamed_schema f) (earlier ++ s ∷ []) = sym (map-append (renamed_schema f) earlier (s ∷ [])) in
-      let rest : first_schema_broken (map (renamed_schema f) earlier ++ renamed_schema f s ∷ []) parts (map (renamed_schema f) schemas) ≡ first_schema_broken (earlier ++ s ∷ []) parts schemas =
-      ap (λ ss. first_schema_broken ss parts (map (renamed_schema f) schemas)) more ∙ first_renamed (earlier ++ s ∷ []) parts schemas in
+      let rest : first_broken_beside (map (renamed_schema f) earlier ++ renamed_schema f s ∷ []) parts (map (renamed_schema f) schemas) ≡ first_broken_beside (earlier ++ s ∷ []) parts schemas =
+      ap (λ ss. first_broken_beside ss parts (map (renamed_schema f) schemas)) more ∙ first_renamed (earlier ++ s ∷ []) parts schemas in
       λ i. option_or (broken_renamed earlier part i) (rest i)
 
 -- ---- the same number for all
@@ -107,11 +109,13 @@ schemas_bare (part ∷ parts) (s ∷ ss) [] h k = absurd k
 schemas_bare (part ∷ parts) (s ∷ ss) (t ∷ ts) h k = λ i. schema_bare (file_name part.word) part.nodes s t h.0 k.0 i ∷ schemas_bare parts ss ts h.1 k.1 i
 
 -- schemas that declare the same break the same rule, whatever the numbers of their concepts
-pub broken_alike : (parts : List Part) (one other : List Schema) → AreSchemasOf parts one → AreSchemasOf parts other → first_schema_broken [] parts other ≡ first_schema_broken [] parts one
+pub broken_alike : (parts : List Part) (one other : List Schema) → AreSchemasOf parts one → AreSchemasOf parts other → first_schema_broken parts other ≡ first_schema_broken parts one
 broken_alike parts one other h k =
-    sym (first_renamed nought [] parts other)
-    ∙ ap (first_schema_broken [] parts) (schemas_bare parts one other h k)
+    sym (by_places parts other k)
+    ∙ sym (first_renamed nought [] parts other)
+    ∙ ap (first_broken_beside [] parts) (schemas_bare parts one other h k)
     ∙ first_renamed nought [] parts one
+    ∙ by_places parts one h
 
 -- ---- by names
 

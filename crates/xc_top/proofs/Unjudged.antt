@@ -1,17 +1,18 @@
 -- An answer that refuses a document, or that none was read, is no judgement.
-use Rattle.std.proofs.Common.{◌≡◌, ◌∙◌, ◌++◌, ℕ, List, [], ◌∷◌, length, decimal, Bool, true, false, Option, Some, None, nat_lt, codes, cond, option_map, option_and_then, inl, inr, sym, ap}
+use Rattle.std.proofs.Common.{◌≡◌, ◌∙◌, ℕ, List, [], ◌∷◌, length, take, decimal, Bool, true, false, Option, Some, None, nat_lt, codes, cond, option_map, option_and_then, inl, inr, sym, ap}
 use Rattle.std.specs.Option.{option_or}
+use Rattle.std.specs.Prelude.{slice_get}
 use Rattle.xc_calc.specs.Linkbases.{is_linkbase}
 use Rattle.xc_calc.specs.declared.arc.ArcKind.{ArcKind}
 use Rattle.xc_concepts.specs.Schemas.{is_schema}
 use Rattle.xc_concepts.specs.declared.schema.Schema.{Schema}
 use Rattle.xc_elements.specs.Codes as tree
 use Rattle.xc_io.specs.Shelf.{Files}
-use Rattle.xc_lists.specs.Places.{first_given}
+use Rattle.xc_lists.specs.Places.{first_given, places}
 use Rattle.xc_top.specs.Answers.{refused, refusal, schema_refusal, link_refusal}
 use Rattle.xc_top.specs.Documents.{limit, unfetched, unfetched_of, content_refusal, document_refusal}
 use Rattle.xc_top.specs.Run.{IsJudged}
-use Rattle.xc_top.specs.Taxonomies.{Part, schema_broken, link_broken, first_schema_broken, schemas_in, linkbases_in, IsTaxonomyRefusal}
+use Rattle.xc_top.specs.Taxonomies.{Part, schema_broken, schema_broken_at, link_broken, schemas_in, linkbases_in, IsTaxonomyRefusal}
 use Rattle.xc_top.specs.declared.documents.Content.{Content}
 use Rattle.xc_top.specs.declared.documents.Content.TheVariants.{Elements, Broken}
 use Rattle.xc_top.specs.declared.documents.Document.{Document}
@@ -82,12 +83,12 @@ schema_unjudged earlier part a e = by _ e
     by None e = absurd (cc)
     by (Some fault) e = refusal_unjudged part.word _ _ a e
 
-schemas_unjudged : (earlier : List Schema) (parts : List Part) (schemas : List Schema) (a : Answer) → first_schema_broken earlier parts schemas ≡ Some a → IsUnjudged a
-schemas_unjudged earlier [] schemas a e = absurd (cc)
-schemas_unjudged earlier (part ∷ parts) [] a e = schema_unjudged earlier part a e
-schemas_unjudged earlier (part ∷ parts) (schema ∷ schemas) a e =
-    first_or_later (IsUnjudged a) (schema_broken earlier part) (first_schema_broken (earlier ++ schema ∷ []) parts schemas) a
-    (schema_unjudged earlier part a) (schemas_unjudged (earlier ++ schema ∷ []) parts schemas a) e
+schema_unjudged_at : (parts : List Part) (schemas : List Schema) (k : ℕ) (a : Answer) → schema_broken_at parts schemas k ≡ Some a → IsUnjudged a
+schema_unjudged_at parts schemas k a e = by (slice_get parts k) e
+  where
+    by : (o : Option Part) → option_and_then (schema_broken (take k schemas)) o ≡ Some a → IsUnjudged a
+    by None e = absurd (cc)
+    by (Some part) e = schema_unjudged (take k schemas) part a e
 
 link_unjudged : (kind : ArcKind) (schemas : List Schema) (part : Part) (a : Answer) → link_broken kind schemas part ≡ Some a → IsUnjudged a
 link_unjudged kind schemas part a e = by _ e
@@ -98,5 +99,7 @@ link_unjudged kind schemas part a e = by _ e
 
 pub taxonomy_unjudged : (kind : ArcKind) (documents : List Document) (a : Answer) → IsTaxonomyRefusal kind documents a → IsUnjudged a
 taxonomy_unjudged kind documents a (inl e) = given_has IsUnjudged document_refusal document_unjudged documents a e
-taxonomy_unjudged kind documents a (inr (inl h)) = schemas_unjudged [] (schemas_in documents) h.schemas a h.broken
+taxonomy_unjudged kind documents a (inr (inl h)) =
+    let parts = schemas_in documents in
+    given_has IsUnjudged (schema_broken_at parts h.schemas) (schema_unjudged_at parts h.schemas) (places parts) a h.broken
 taxonomy_unjudged kind documents a (inr (inr h)) = given_has IsUnjudged (link_broken kind h.schemas) (link_unjudged kind h.schemas) (linkbases_in documents) a h.broken

@@ -1,6 +1,5 @@
 -- What the documents of a taxonomy say together, and the first rule that one of them breaks.
-use Rattle.std.specs.Prelude.{◌≡◌, ◌⊎◌, ◌++◌, ℕ, List, [], ◌∷◌, filter_map, flat_map, map, Option, Some, None, option_and_then, if◌then◌else◌}
-use Rattle.std.specs.Option.{option_or}
+use Rattle.std.specs.Prelude.{◌≡◌, ◌⊎◌, ℕ, List, [], ◌∷◌, filter_map, flat_map, map, slice_get, take, Option, Some, None, option_and_then, if◌then◌else◌}
 use Rattle.xc_chars.specs.Parts.{file_name}
 use Rattle.xc_calc.specs.Linkbases.{is_linkbase}
 use Rattle.xc_calc.specs.Linked.{arcs_in}
@@ -12,7 +11,7 @@ use Rattle.xc_calc.specs.declared.arc.ListedArc.{ListedArc}
 use Rattle.xc_calc.specs.declared.arc.Network.{Network}
 use Rattle.xc_concepts.specs.Declarations.{IsSchemaOf}
 use Rattle.xc_concepts.specs.Held.{AreHeld, AreTyped}
-use Rattle.xc_lists.specs.Places.{first_given}
+use Rattle.xc_lists.specs.Places.{first_given, places}
 use Rattle.xc_concepts.specs.Rules as schema
 use Rattle.xc_concepts.specs.Schemas.{is_schema}
 use Rattle.xc_concepts.specs.declared.schema.Schema.{Schema}
@@ -31,6 +30,7 @@ pub record Part : Type 0 where
   pub word : List ℕ
   pub nodes : List Node
 
+-- these elements, under this word
 abbrev pub part_of : List ℕ → List Node → Part
 part_of word nodes = record { word = word; nodes = nodes }
 
@@ -44,9 +44,11 @@ abbrev pub linkbase_in_content : List ℕ → Content → Option Part
 linkbase_in_content word (Elements nodes) = if is_linkbase nodes then Some (part_of word nodes) else None
 linkbase_in_content word (Broken fault) = None
 
+-- the elements of a document that is a schema
 abbrev pub schema_in : Document → Option Part
 schema_in document = schema_in_content document.word document.content
 
+-- the elements of a document that is a linkbase
 abbrev pub linkbase_in : Document → Option Part
 linkbase_in document = linkbase_in_content document.word document.content
 
@@ -69,11 +71,13 @@ AreSchemasOf (part ∷ parts) (schema ∷ schemas) = IsSchemaOf (file_name part.
 abbrev pub schema_broken : List Schema → Part → Option Answer
 schema_broken earlier part = option_and_then (schema_refusal part.word) (schema.first_broken earlier (file_name part.word) part.nodes)
 
--- what is answered of the first schema that breaks a rule, each beside those before it
-abbrev pub first_schema_broken : List Schema → List Part → List Schema → Option Answer
-first_schema_broken earlier [] schemas = None
-first_schema_broken earlier (part ∷ parts) [] = schema_broken earlier part
-first_schema_broken earlier (part ∷ parts) (schema ∷ schemas) = option_or (schema_broken earlier part) (first_schema_broken (earlier ++ schema ∷ []) parts schemas)
+-- what is answered of schema k, where it breaks a rule beside the k before it
+abbrev pub schema_broken_at : List Part → List Schema → ℕ → Option Answer
+schema_broken_at parts schemas k = option_and_then (schema_broken (take k schemas)) (slice_get parts k)
+
+-- what is answered of the first schema that breaks a rule
+abbrev pub first_schema_broken : List Part → List Schema → Option Answer
+first_schema_broken parts schemas = first_given (schema_broken_at parts schemas) (places parts)
 
 -- what is answered of a linkbase that breaks a rule over the concepts of all schemas
 abbrev pub link_broken : ArcKind → List Schema → Part → Option Answer
@@ -98,7 +102,7 @@ pub record IsTaxonomyOf (kind : ArcKind) (documents : List Document) (names : Li
   pub read : first_unread documents ≡ None
   pub schemas : List Schema
   pub declared : AreSchemasOf (schemas_in documents) schemas
-  pub sound : first_schema_broken [] (schemas_in documents) schemas ≡ None
+  pub sound : first_schema_broken (schemas_in documents) schemas ≡ None
   pub held : AreHeld schemas names
   pub linked : first_link_broken kind schemas (linkbases_in documents) ≡ None
   pub says : IsTaxonomy schemas (arcs_of kind schemas (linkbases_in documents)) networks wanted
@@ -108,14 +112,14 @@ pub record IsSchemaRefusal (documents : List Document) (answer : Answer) : Type 
   pub read : first_unread documents ≡ None
   pub schemas : List Schema
   pub declared : AreSchemasOf (schemas_in documents) schemas
-  pub broken : first_schema_broken [] (schemas_in documents) schemas ≡ Some answer
+  pub broken : first_schema_broken (schemas_in documents) schemas ≡ Some answer
 
 -- no schema breaks a rule, and this is answered of the first linkbase that breaks one
 pub record IsLinkRefusal (kind : ArcKind) (documents : List Document) (answer : Answer) : Type 0 where
   pub read : first_unread documents ≡ None
   pub schemas : List Schema
   pub declared : AreSchemasOf (schemas_in documents) schemas
-  pub sound : first_schema_broken [] (schemas_in documents) schemas ≡ None
+  pub sound : first_schema_broken (schemas_in documents) schemas ≡ None
   pub names : List Expanded
   pub held : AreHeld schemas names
   pub broken : first_link_broken kind schemas (linkbases_in documents) ≡ Some answer

@@ -37,9 +37,9 @@ pub fn add_schemas(
     requires { names.old ≡ [] }
     ensures schemas { IfOk result (λ concepts. AreSchemasOf (schemas_in documents.now) concepts) }
     ensures held { IfOk result (λ concepts. AreHeld concepts names.new) }
-    ensures sound { IfOk result (λ concepts. first_schema_broken [] (schemas_in documents.now) concepts ≡ None) }
+    ensures sound { IfOk result (λ concepts. first_schema_broken (schemas_in documents.now) concepts ≡ None) }
     ensures refused { IfStopped result (λ answer. (schemas : List Schema) × AreSchemasOf (schemas_in documents.now) schemas
-        × (first_schema_broken [] (schemas_in documents.now) schemas ≡ Some answer)) }
+        × (first_schema_broken (schemas_in documents.now) schemas ≡ Some answer)) }
     ensures status { IfStopped result (λ answer. IsSettled answer.status) }
 {
     let mut concepts = Concepts::new(alloc);

@@ -24,7 +24,7 @@ returns-in_err-add_schema-clause-refused c =
     let i = c.loop-document.document-index in
     let stop = c.in_err-add_schema.field-0 in
     let is : c.from_residual.result ≡ Err stop.0 = search rules in
-    subst (λ r. IfStopped r (λ answer. (schemas : List Schema) × AreSchemasOf (schemas_in docs) schemas × (first_schema_broken [] (schemas_in docs) schemas ≡ Some answer))) (sym is)
+    subst (λ r. IfStopped r (λ answer. (schemas : List Schema) × AreSchemasOf (schemas_in docs) schemas × (first_schema_broken (schemas_in docs) schemas ≡ Some answer))) (sym is)
     (if_named stop.0 (λ answer broken.
     added_document_not (schemas_in docs) (schemas_in (drop i docs)) (schemas_in (drop (i + 1) docs)) (schema_in c.document-item.result) c.loop-document.concepts answer
     (next_part schema_in docs i c.document-item.result c.loop-document-test.true c.document-item.is) broken c.loop-document.invariant.added)

@@ -1,21 +1,17 @@
 -- What an accepted certificate proves of the files that are held.
-use Rattle.std.proofs.Common.{◌≡◌, ◌∙◌, ℕ, List, decimal, Option, Some, None, option_map, inl, inr, refl, sym, ap, subst}
+use Rattle.std.proofs.Common.{◌≡◌, ◌∙◌, ℕ, List, Option, Some, None, inl, inr, refl, sym, ap, subst}
 use Rattle.xc_calc.specs.declared.arc.Network.{Network}
 use Rattle.xc_cert.specs.Certificates.{IsCertificate}
-use Rattle.xc_cert.specs.Codes as certificate
-use Rattle.xc_cert.specs.declared.fault.CertFault.TheVariants.{NotCertificate}
 use Rattle.xc_interval.specs.declared.mode.Mode.{Mode}
 use Rattle.xc_io.specs.Shelf.{Files}
 use Rattle.xc_report.specs.declared.reports.Fact.{Fact}
 use Rattle.xc_system.specs.declared.types.Certificate.{Certificate}
 use Rattle.xc_system.specs.declared.types.Certificate.TheVariants.{Feasible, Infeasible}
 use Rattle.xc_top.proofs.Reading.{reached}
-use Rattle.xc_top.proofs.Unjudged.{IsUnjudged, given_has, refusal_unjudged, unfetched_unjudged}
-use Rattle.xc_top.specs.Answer.{IsCommandAnswer}
-use Rattle.xc_top.specs.Certified.{IsCertified, IsJudged, judged_status}
-use Rattle.xc_top.specs.Checks.{IsOverFiles}
+use Rattle.xc_top.proofs.Unjudged.{IsUnjudged, given_has, unfetched_unjudged}
+use Rattle.xc_top.specs.Answer.{IsCommandAnswer, IsHeldAnswer}
+use Rattle.xc_top.specs.Certified.{IsJudgementIn, judged_status}
 use Rattle.xc_top.specs.Documents.{unfetched}
-use Rattle.xc_top.specs.Judged.{JudgementOf}
 use Rattle.xc_top.specs.Proven.{IsProven}
 use Rattle.xc_top.specs.Words.{CommandWords, VerifyWords, VerifyOf, file_words}
 use Rattle.xc_top.specs.declared.status.Answer.{Answer}
@@ -35,40 +31,34 @@ pub kept : (c : Certificate) → IsCertificate c → IsKept c
 kept (Feasible values) h = tt
 kept (Infeasible r) h = h.0
 
--- an answer to a certificate that is sound is a judgement of it
-over_certificate : (a : Answer) → a.status ≡ Sound → (mode : Mode) (word bytes : List ℕ) (networks : List Network) (facts : List Fact) → IsCertified mode word bytes networks facts a → IsJudged mode bytes networks facts a
-over_certificate a sound mode word bytes networks facts (inl none) = absurd (refusal_unjudged word (certificate.code_of (NotCertificate none.0)) (option_map decimal (certificate.place_of (NotCertificate none.0))) a none.2 (inl sound))
-over_certificate a sound mode word bytes networks facts (inr h) = h
-
 -- a judgement that is sound is an acceptance, which proves the claim
-judged_proves : AcceptanceProves → (mode : Mode) (bytes : List ℕ) (networks : List Network) (facts : List Fact) (a : Answer) → a.status ≡ Sound → (h : IsJudged mode bytes networks facts a) → Proves h.system h.certificate
+judged_proves : AcceptanceProves → (mode : Mode) (bytes : List ℕ) (networks : List Network) (facts : List Fact) (a : Answer) → a.status ≡ Sound → (h : IsJudgementIn mode bytes networks facts a) → Proves h.system h.certificate
 judged_proves proves mode bytes networks facts a sound h =
     let status : judged_status h.judged.judgement ≡ Sound = sym (ap (λ x. x.status) h.judged.is) ∙ sound in
     let judgement : IsJudgement h.system h.certificate Accepted = subst (λ j. IsJudgement h.system h.certificate j) (accepted h.judged.judgement status) h.judged.judgement_is in
     proves h.system h.certificate h.judged.kept (kept h.certificate h.text.sound) judgement
 
-over_files : AcceptanceProves → (verify : VerifyWords) (files : Files) (bytes : List ℕ) (a : Answer) → a.status ≡ Sound → files verify.certificate ≡ Some bytes
-    → IsOverFiles verify.over (JudgementOf verify.certificate bytes) files a → IsProven verify files
-over_files proves verify files bytes a sound held h =
-    let r = reached verify.over (JudgementOf verify.certificate bytes) files a (inl sound) h in
-    let j = over_certificate a sound verify.over.mode verify.certificate bytes r.networks r.report.facts r.answered in
+over_files : AcceptanceProves → (verify : VerifyWords) (files : Files) (a : Answer) → a.status ≡ Sound → IsHeldAnswer (VerifyOf verify) files a → IsProven verify files
+over_files proves verify files a sound h =
+    let r = reached files a (VerifyOf verify) (inl sound) h in
+    let j = r.made.judged in
     record {
       networks = r.networks;
       report = r.report;
-      read = r.read;
+      content = r.content;
       system = j.system;
       system_is = j.system_is;
-      bytes = bytes;
-      held = held;
+      bytes = r.made.bytes;
+      held = r.made.held;
       certificate = j.certificate;
       text = j.text;
-      proves = judged_proves proves verify.over.mode bytes r.networks r.report.facts a sound j;
+      proves = judged_proves proves verify.over.mode r.made.bytes r.networks r.report.facts a sound j;
     }
 
 -- a run of `verify` that is sound has accepted, and so proved
 pub accepted_proven : AcceptanceProves → (verify : VerifyWords) (files : Files) (a : Answer) → a.status ≡ Sound → IsCommandAnswer (VerifyOf verify) files a → IsProven verify files
 accepted_proven proves verify files a sound (inl first) = absurd (given_has IsUnjudged (unfetched files) (unfetched_unjudged files) (file_words (VerifyOf verify)) a first (inl sound))
-accepted_proven proves verify files a sound (inr h) = over_files proves verify files h.answered.0 a sound h.answered.1 h.answered.2
+accepted_proven proves verify files a sound (inr h) = over_files proves verify files a sound h.answered
 
 -- the same of words that were read
 pub run_proven : AcceptanceProves → (words : Option CommandWords) (command : CommandWords) (verify : VerifyWords) (files : Files) (a : Answer) → Some command ≡ words → words ≡ Some (VerifyOf verify) → a.status ≡ Sound → IsCommandAnswer command files a → IsProven verify files

@@ -9,7 +9,7 @@ use Rattle.xc_points.specs.Gathered.{AreEnds}
 use Rattle.xc_report.specs.declared.reports.Fact.{Fact}
 use Rattle.xc_system.specs.Systems.{Constraints}
 use Rattle.xc_top.specs.Certified.{IsSystemIn}
-use Rattle.xc_top.specs.Judged.{are_too_many}
+use Rattle.xc_top.specs.Contents.{are_too_many}
 
 -- where facts are not too many, their number fits
 few : (n : ℕ) → not (nat_lt n (2 ^ 31)) ≡ false → n < 2 ^ 31

@@ -16,6 +16,7 @@ use Rattle.xc_top.specs.declared.status.Answer.{Answer}
 use Rattle.xc_top.specs.declared.status.Status.TheVariants.{ReadFault}
 use Rattle.xc_top.specs.declared.status.Stop.{Stop}
 use Rattle.xc_top.specs.declared.status.Stop.TheVariants as stop
+use Rattle.xc_top.proofs.Chain.{from_steps}
 use Rattle.xc_top.proofs.Stops.{if_both, if_then}
 use Rattle.xc_top.proofs.Told.{settled_ends}
 
@@ -172,7 +173,8 @@ over_failed held steady faults old new command answer (inr is) ended = absurd (s
 pub over_told : {S : Type 0} (held : S → Option Files) (steady : S → Bool) (faults : S → ℕ) (old new : S) (command : CommandWords) (answer : Answer)
     → IsOver held steady faults old new command answer → ¬ (answer.status ≡ ReadFault) → IsTold held faults old new answer (λ files. IsCommandAnswer command files answer)
 over_told held steady faults old new command answer (inl is) other = absurd (other is.ended)
-over_told held steady faults old new command answer (inr is) other = is
+over_told held steady faults old new command answer (inr is) other =
+    record { ended = is.ended; worked = is.worked; told = if_then (held old) (λ files step. from_steps command files answer step) is.told }
 
 -- it ends a run
 pub over_ends : {S : Type 0} (held : S → Option Files) (steady : S → Bool) (faults : S → ℕ) (old new : S) (command : CommandWords) (answer : Answer)

@@ -1,5 +1,6 @@
 pub mod Accepted
 pub mod Beside
+pub mod Chain
 pub mod Fetched
 pub mod Few
 pub mod Judging

@@ -13,8 +13,8 @@ use Rattle.xc_names.specs.declared.expanded.Expanded.{Expanded}
 use Rattle.xc_names.specs.declared.expanded.NameId.{NameId}
 use Rattle.xc_names.specs.declared.wanted.Wanted.{Wanted}
 use Rattle.xc_report.specs.Opened.{Opened}
-use Rattle.xc_top.specs.Judged.{Asked, IsFactsAnswer}
-use Rattle.xc_top.specs.Sums.{sum_asked, named_words, unbound, number_in, sum_network, AreNodesOf, IsNumberedAnswer}
+use Rattle.xc_top.specs.Steps.Chain.{Asked, IsFactsAnswer, IsNumberedAnswer, sum_asked}
+use Rattle.xc_top.specs.Sums.{named_words, unbound, number_in, sum_network, AreNodesOf}
 use Rattle.xc_top.specs.Words.{SumWords, name_of}
 use Rattle.xc_top.specs.declared.status.Answer.{Answer}
 

@@ -17,17 +17,17 @@ use Rattle.xc_report.specs.Wanted.{known_of}
 use Rattle.xc_report.specs.declared.reports.ReportFault.{ReportFault}
 use Rattle.xc_report.specs.declared.stated.StatedFact.{StatedFact}
 use Rattle.xc_report.specs.Renamed.{renamed_stated, renamed_fact, renamed_read}
+use Rattle.xc_top.proofs.Chain.{to_steps}
 use Rattle.xc_top.proofs.Renaming.{IsRenamed, renamed_network}
 use Rattle.xc_top.proofs.RenamedLines.{Judges, one_counted}
 use Rattle.xc_top.proofs.RenamedSums.{one_sum}
 use Rattle.xc_top.proofs.RenamedTaxonomies.{one_taxonomy, one_refusal, refused_or_read}
-use Rattle.xc_top.specs.Answer.{IsHeldAnswer, IsAnswer, IsCommandAnswer}
+use Rattle.xc_top.specs.Answer.{IsAnswer, IsCommandAnswer}
 use Rattle.xc_top.specs.Answers.{report_refusal}
-use Rattle.xc_top.specs.Checks.{over_asked, IsOpenedAnswer, IsDocumentsAnswer, IsOverFiles, IsVerifyAnswer}
 use Rattle.xc_top.specs.Documents.{first_unfetched, IsContentOf, IsDocumentOf, AreDocumentsOf}
-use Rattle.xc_top.specs.Judged.{Asked, Sought, FindingsAndJoint, JudgementOf, IsJoint, IsCounted, IsStated, IsRead, IsFactsAnswer}
+use Rattle.xc_top.specs.Steps.Chain.{over_asked, IsOpenedAnswer, IsDocumentsAnswer, IsOverFiles, IsVerifyAnswer, sum_asked, IsNumberedAnswer, IsReportAnswer, IsSumAnswer, IsHeldStep, Asked, Sought, FindingsAndJoint, JudgementOf, IsJoint, IsCounted, IsStated, IsRead, IsFactsAnswer}
 use Rattle.xc_top.specs.Laws.{AreOneIf, DocumentsAreOne, IsCheck}
-use Rattle.xc_top.specs.Sums.{sum_asked, sum_network, named_words, unbound, IsNumberedAnswer, IsReportAnswer, IsSumAnswer}
+use Rattle.xc_top.specs.Sums.{sum_network, named_words, unbound}
 use Rattle.xc_top.specs.Words.{CommandWords, SumWords, CheckWords, VerifyWords, SumOf, CheckOf, VerifyOf, file_words}
 use Rattle.xc_top.specs.declared.documents.Content.{Content}
 use Rattle.xc_top.specs.declared.documents.Content.TheVariants.{Elements, Broken}
@@ -162,7 +162,7 @@ module _ (below : Below) (documents_are_one : DocumentsAreOne) where
 
   -- ---- commands
 
-  one_held : (command : CommandWords) (files : Files) (one other : Answer) → IsHeldAnswer command files one → IsHeldAnswer command files other → AreOneIf (IsCheck (Some command)) one other
+  one_held : (command : CommandWords) (files : Files) (one other : Answer) → IsHeldStep command files one → IsHeldStep command files other → AreOneIf (IsCheck (Some command)) one other
   one_held (SumOf sum) files one other h k = one_summed sum files one other h k
   one_held (CheckOf check) files one other h k = one_over_files check FindingsAndJoint files one other h k
   one_held (VerifyOf verify) files one other h k = one_verified verify files one other h k
@@ -171,7 +171,7 @@ module _ (below : Below) (documents_are_one : DocumentsAreOne) where
   one_command command files one other (inl h) (inl k) = inl (same_some one other (first_unfetched files (file_words command)) h k)
   one_command command files one other (inl h) (inr k) = absurd (some_none one (first_unfetched files (file_words command)) h k.fetched)
   one_command command files one other (inr h) (inl k) = absurd (some_none other (first_unfetched files (file_words command)) k h.fetched)
-  one_command command files one other (inr h) (inr k) = one_held command files one other h.answered k.answered
+  one_command command files one other (inr h) (inr k) = one_held command files one other (to_steps command files one h).answered (to_steps command files other k).answered
 
   pub one_answer : (words : Option CommandWords) (files : Files) (one other : Answer) → IsAnswer words files one → IsAnswer words files other → AreOneIf (IsCheck words) one other
   one_answer None files one other h k = inl (h ∙ sym k)

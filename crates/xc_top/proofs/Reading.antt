@@ -1,94 +1,72 @@
--- A judgement over documents and a report: what was read on the way, and what is sought in it; and back, over files that hold the same.
-use Rattle.std.proofs.Common.{◌≡◌, ◌∙◌, ℕ, List, [], ◌∷◌, length, Bool, true, false, Result, Ok, Err, MatchBool, codes, inl, inr, refl, sym, ap, subst}
+-- A judgement over words and files is made of their content; and files that hold the same have the same content.
+use Rattle.std.proofs.Common.{◌≡◌, ◌∙◌, ◌⊎◌, ℕ, List, [], ◌∷◌, Bool, true, false, Some, None, cond, decimal, option_map, inl, inr, ap}
 use Rattle.std.specs.List.{AllByRecursion}
-use Rattle.xc_calc.specs.declared.arc.ArcKind.{ArcKind}
 use Rattle.xc_calc.specs.declared.arc.Network.{Network}
+use Rattle.xc_cert.specs.Codes as certificate
+use Rattle.xc_cert.specs.declared.fault.CertFault.TheVariants.{NotCertificate}
 use Rattle.xc_io.specs.Shelf.{Files}
-use Rattle.xc_names.specs.declared.expanded.Expanded.{Expanded}
-use Rattle.xc_names.specs.declared.wanted.Wanted.{Wanted}
+use Rattle.xc_names.specs.Codes as name_fault
+use Rattle.xc_names.specs.Prefixes.{Bindings}
+use Rattle.xc_names.specs.declared.expansion.NameFault.TheVariants.{NoPrefix}
 use Rattle.xc_report.specs.Codes as report_fault
-use Rattle.xc_report.specs.Opened.{Opened, opened}
-use Rattle.xc_report.specs.StatedFacts.{stated_facts}
-use Rattle.xc_report.specs.Wanted.{known_of}
-use Rattle.xc_report.specs.declared.reports.Fact.{Fact}
 use Rattle.xc_report.specs.declared.reports.Report.{Report}
 use Rattle.xc_report.specs.declared.reports.ReportFault.{ReportFault}
-use Rattle.xc_report.specs.declared.stated.StatedFact.{StatedFact}
-use Rattle.xc_top.proofs.Unjudged.{refused_unjudged, refusal_unjudged, taxonomy_unjudged}
-use Rattle.xc_top.specs.Answers.{refused}
-use Rattle.xc_top.specs.Checks.{IsOpenedAnswer, IsDocumentsAnswer, IsTaxonomyAnswer, IsOverFiles, over_asked}
+use Rattle.xc_top.proofs.Unjudged.{IsUnjudged, given_has, refused_unjudged, refusal_unjudged, taxonomy_unjudged}
+use Rattle.xc_top.specs.Answer.{IsHeldAnswer, IsMadeOfContent}
+use Rattle.xc_top.specs.Answers.{name_refusal, report_refusal}
+use Rattle.xc_top.specs.Contents.{HasContent, report_word}
 use Rattle.xc_top.specs.Documents.{AreDocumentsOf}
-use Rattle.xc_top.specs.Judged.{Asked, Sought, are_too_many, IsCounted, IsSought, IsStated, IsRead, IsFactsAnswer}
-use Rattle.xc_top.specs.Proven.{IsReadFrom}
+use Rattle.xc_top.specs.FirstFaults.{AreRefused, IsNotOpen, IsNotOpenOver, IsNotSaid, IsUncertified, IsFirstFault}
 use Rattle.xc_top.specs.Run.{IsJudged}
-use Rattle.xc_top.specs.Words.{CheckWords}
+use Rattle.xc_top.specs.Sums.{is_bound, named_words, unbound}
+use Rattle.xc_top.specs.Words.{CheckWords, VerifyWords, CommandWords, SumOf, CheckOf, VerifyOf}
 use Rattle.xc_top.specs.declared.documents.Document.{Document}
 use Rattle.xc_top.specs.declared.status.Answer.{Answer}
 
--- what is sought is answered of what was read, and the facts are not too many
-pub record IsReached (check : CheckWords) (sought : Sought) (files : Files) (a : Answer) : Type 0 where
-  pub networks : List Network
-  pub report : Report
-  pub read : IsReadFrom check files networks report
-  pub few : are_too_many (length report.facts) (length networks) ≡ false
-  pub answered : IsSought check.mode sought networks report.facts a
+-- ---- a judgement is none of the refusals
 
--- ---- a judgement is none of the refusals on the way
+unbound_unjudged : (prefixes : Bindings) (report : List ℕ) (word : List ℕ × List ℕ) (a : Answer) → unbound prefixes report word ≡ Some a → IsUnjudged a
+unbound_unjudged prefixes report word a e = by (is_bound prefixes word.1) e
+  where
+    by : (b : Bool) → cond b None (name_refusal report NoPrefix word.0) ≡ Some a → IsUnjudged a
+    by true e = absurd (cc)
+    by false e = refusal_unjudged report (name_fault.code_of NoPrefix) (Some word.0) a e
 
-module _ (asked : Asked) (a : Answer) (judged : IsJudged a.status) where
-  over_documents : (kind : ArcKind) (report : List ℕ) (documents : List Document) → IsDocumentsAnswer kind asked report documents a → IsTaxonomyAnswer kind asked report documents a
-  over_documents kind report documents (inl refusal) = absurd (taxonomy_unjudged kind documents a refusal judged)
-  over_documents kind report documents (inr h) = h
+module _ (files : Files) (a : Answer) where
+  report_unjudged : (word : List ℕ) (fault : ReportFault) → report_refusal word fault ≡ Some a → IsUnjudged a
+  report_unjudged word fault e = refusal_unjudged word (report_fault.code_of fault) (report_fault.place_of fault) a e
 
-  over_report : (names : List Expanded) (networks : List Network) (wanted : Wanted) (r : Result Opened ReportFault) → IsOpenedAnswer asked names networks wanted r a
-      → (parts : Opened) × (r ≡ Ok parts) × IsFactsAnswer asked names networks wanted parts a
-  over_report names networks wanted (Ok parts) h = (parts, refl, h)
-  over_report names networks wanted (Err fault) h = absurd (refusal_unjudged asked.word (report_fault.code_of fault) (report_fault.place_of fault) a h judged)
+  closed_unjudged : (word : List ℕ) → IsNotOpen word files a → IsUnjudged a
+  closed_unjudged word h = report_unjudged word h.fault h.refused
 
-  over_stated : (names : List Expanded) (networks : List Network) (r : Result (List StatedFact) ReportFault) → IsRead asked names networks r a
-      → (stated : List StatedFact) × (r ≡ Ok stated) × IsStated asked names networks stated a
-  over_stated names networks (Ok stated) h = (stated, refl, h)
-  over_stated names networks (Err fault) h = absurd (refusal_unjudged asked.word (report_fault.code_of fault) (report_fault.place_of fault) a h judged)
+  documents_unjudged : (check : CheckWords) → AreRefused check files a ⊎ IsNotOpenOver check files a → IsUnjudged a
+  documents_unjudged check (inl h) = taxonomy_unjudged check.kind h.documents a h.refused
+  documents_unjudged check (inr h) = closed_unjudged check.report h.closed
 
-  over_facts : (networks : List Network) (facts : List Fact) → IsCounted asked networks facts a → (are_too_many (length facts) (length networks) ≡ false) × IsSought asked.mode asked.sought networks facts a
-  over_facts networks facts h = by (are_too_many (length facts) (length networks)) refl h
-    where
-      by : (b : Bool) → are_too_many (length facts) (length networks) ≡ b → MatchBool b (a ≡ refused asked.word (codes "xc:tooMany")) (IsSought asked.mode asked.sought networks facts a)
-          → (are_too_many (length facts) (length networks) ≡ false) × IsSought asked.mode asked.sought networks facts a
-      by true many e = absurd (refused_unjudged a (ap (λ x. x.status) e) judged)
-      by false few h = (few, h)
+  not_said_unjudged : (command : CommandWords) → IsNotSaid command files a → IsUnjudged a
+  not_said_unjudged (SumOf sum) (inl h) = closed_unjudged sum.report h
+  not_said_unjudged (SumOf sum) (inr h) = given_has IsUnjudged (unbound h.parts.prefixes sum.report) (unbound_unjudged h.parts.prefixes sum.report) (named_words sum) a h.lacks
+  not_said_unjudged (CheckOf check) h = documents_unjudged check h
+  not_said_unjudged (VerifyOf verify) h = documents_unjudged verify.over h
 
-pub reached : (check : CheckWords) (sought : Sought) (files : Files) (a : Answer) → IsJudged a.status → IsOverFiles check sought files a → IsReached check sought files a
-reached check sought files a judged h =
-    let asked = over_asked check sought in
-    let t = over_documents asked a judged check.kind h.bytes h.documents h.answered in
-    let o = over_report asked a judged t.names t.networks t.wanted (opened h.bytes) t.answered in
-    let s = over_stated asked a judged t.names t.networks (stated_facts (known_of o.0.prefixes t.names t.wanted) o.0.facts) o.2 in
-    let f = over_facts asked a judged t.networks s.2.report.facts s.2.counted in
-    record {
-      networks = t.networks;
-      report = s.2.report;
-      read = record {
-        documents = h.documents;
-        read = h.read;
-        names = t.names;
-        wanted = t.wanted;
-        taxonomy = t.taxonomy;
-        bytes = h.bytes;
-        held = h.held;
-        parts = o.0;
-        opens = o.1;
-        stated = s.0;
-        states = s.1;
-        after = s.2.after;
-        kept = s.2.kept;
-        numbered = s.2.numbered;
-      };
-      few = f.0;
-      answered = f.1;
-    }
+  uncertified_unjudged : (command : CommandWords) → IsUncertified command files a → IsUnjudged a
+  uncertified_unjudged (SumOf sum) h = absurd h
+  uncertified_unjudged (CheckOf check) h = absurd h
+  uncertified_unjudged (VerifyOf verify) h =
+      refusal_unjudged verify.certificate (certificate.code_of (NotCertificate h.lacks.0)) (option_map decimal (certificate.place_of (NotCertificate h.lacks.0))) a h.lacks.2
 
--- ---- and back
+  fault_unjudged : (command : CommandWords) → IsFirstFault command files a → IsUnjudged a
+  fault_unjudged command (inl h) = not_said_unjudged command h
+  fault_unjudged command (inr (inl h)) = report_unjudged (report_word command) h.fault h.refused
+  fault_unjudged command (inr (inr (inl h))) = refused_unjudged a (ap (λ x. x.status) h.is)
+  fault_unjudged command (inr (inr (inr h))) = uncertified_unjudged command h
+
+  -- a judgement is made of the content
+  pub reached : (command : CommandWords) → IsJudged a.status → IsHeldAnswer command files a → IsMadeOfContent command files a
+  reached command judged (inl fault) = absurd (fault_unjudged command fault judged)
+  reached command judged (inr h) = h
+
+-- ---- the same content
 
 same_documents : (files later : Files) (words : List (List ℕ)) (documents : List Document) → AllByRecursion (λ word. later word ≡ files word) words → AreDocumentsOf files words documents → AreDocumentsOf later words documents
 same_documents files later [] [] same h = tt
@@ -99,20 +77,28 @@ same_documents files later (word ∷ words) (d ∷ ds) same h = (
   same_documents files later words ds same.1 h.1,
 )
 
--- where something else is sought in what was read, and later files hold the same, this is answered
-pub answered_later : (check : CheckWords) (sought : Sought) (files later : Files) (a : Answer) (networks : List Network) (report : Report) → (read : IsReadFrom check files networks report)
-    → are_too_many (length report.facts) (length networks) ≡ false → later check.report ≡ files check.report → AllByRecursion (λ word. later word ≡ files word) check.documents
-    → IsSought check.mode sought networks report.facts a → IsOverFiles check sought later a
-answered_later check sought files later a networks report read few same_report same h =
-    let asked = over_asked check sought in
-    let counted : IsCounted asked networks report.facts a = subst (λ b. MatchBool b (a ≡ refused asked.word (codes "xc:tooMany")) (IsSought asked.mode asked.sought networks report.facts a)) (sym few) h in
-    let stated : IsRead asked read.names networks (Ok read.stated) a = record { after = read.after; kept = read.kept; report = report; numbered = read.numbered; counted = counted } in
-    let facts : IsFactsAnswer asked read.names networks read.wanted read.parts a = subst (λ r. IsRead asked read.names networks r a) (sym read.states) stated in
-    let over : IsOpenedAnswer asked read.names networks read.wanted (opened read.bytes) a = subst (λ r. IsOpenedAnswer asked read.names networks read.wanted r a) (sym read.opens) facts in
+-- where later files hold the same report and documents, `verify` has the content of `check`
+pub content_later : (verify : VerifyWords) (files later : Files) (networks : List Network) (report : Report) → HasContent (CheckOf verify.over) files networks report
+    → later verify.over.report ≡ files verify.over.report → AllByRecursion (λ word. later word ≡ files word) verify.over.documents
+    → HasContent (VerifyOf verify) later networks report
+content_later verify files later networks report content same_report same =
+    let read = content.read in
+    let open_parts = read.over.opened_as in
+    let said = read.over.said in
     record {
-      bytes = read.bytes;
-      held = same_report ∙ read.held;
-      documents = read.documents;
-      read = same_documents files later check.documents read.documents same read.read;
-      answered = inr (record { names = read.names; networks = networks; wanted = read.wanted; taxonomy = read.taxonomy; answered = over });
+      read = record {
+        names = read.names;
+        wanted = read.wanted;
+        parts = read.parts;
+        over = record {
+          opened_as = record { bytes = open_parts.bytes; held = same_report ∙ open_parts.held; opens = open_parts.opens };
+          said = record { documents = said.documents; read = same_documents files later verify.over.documents said.documents same said.read; taxonomy = said.taxonomy };
+        };
+        stated = read.stated;
+        states = read.states;
+        after = read.after;
+        kept = read.kept;
+        numbered = read.numbered;
+      };
+      few = content.few;
     }

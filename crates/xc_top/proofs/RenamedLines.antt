@@ -34,7 +34,8 @@ use Rattle.xc_report.specs.Renamed.{renamed_fact}
 use Rattle.xc_top.proofs.Renaming.{IsInjective, renamed_network, renamed_point}
 use Rattle.xc_top.specs.Answers.{make_answer, refused}
 use Rattle.xc_top.specs.Findings.{is_inconsistent, is_too_wide, is_empty_point, is_contradicted, is_caused, status_of, joint_status, AreVerdicts, IsFindings, IsJointFindings, findings_of}
-use Rattle.xc_top.specs.Judged.{Asked, Sought, FindingsAlone, FindingsAndJoint, JudgementOf, IsJoint, IsSought, are_too_many, IsCounted}
+use Rattle.xc_top.specs.Contents.{are_too_many}
+use Rattle.xc_top.specs.Steps.Chain.{Asked, Sought, FindingsAlone, FindingsAndJoint, JudgementOf, IsJoint, IsSought, IsCounted}
 use Rattle.xc_top.specs.Laws.{AreOfOneKind, AreOneIf, kind_line}
 use Rattle.xc_top.specs.declared.status.Answer.{Answer}
 use Rattle.xc_top.specs.declared.status.Status.TheVariants.{Sound, Findings, TooWide}

@@ -26,7 +26,8 @@ use Rattle.xc_top.proofs.RenamedBindings.{bindings_renamed}
 use Rattle.xc_top.proofs.RenamedPoints.{points_renamed}
 use Rattle.xc_top.proofs.Renaming.{IsInjective, renamed_network, renamed_point}
 use Rattle.xc_top.specs.Answers.{certificate_refusal, make_answer}
-use Rattle.xc_top.specs.Certified.{IsCertified, IsJudged, IsSystemIn, judged_status}
+use Rattle.xc_top.specs.Certified.{IsJudgementIn, IsSystemIn, judged_status}
+use Rattle.xc_top.specs.Steps.Chain.{IsCertified}
 use Rattle.xc_top.specs.declared.status.Answer.{Answer}
 use Rattle.xc_verify.specs.Judgements.{IsJudgement}
 use Rattle.xc_verify.specs.Laws.{HasOneJudgement}
@@ -118,7 +119,7 @@ same_some : (a b : Answer) (o : Option Answer) → o ≡ Some a → o ≡ Some b
 same_some a b o e f = let same : Some a ≡ Some b = sym e ∙ f in cc
 
 module _ (laws : Certifies) (f : ℕ → ℕ) (injective : IsInjective f) (mode : Mode) (word bytes : List ℕ) (networks : List Network) (facts : List Fact) where
-  same_judged : (one other : Answer) → IsJudged mode bytes networks facts one → IsJudged mode bytes (map (renamed_network f) networks) (map (renamed_fact f) facts) other → one ≡ other
+  same_judged : (one other : Answer) → IsJudgementIn mode bytes networks facts one → IsJudgementIn mode bytes (map (renamed_network f) networks) (map (renamed_fact f) facts) other → one ≡ other
   same_judged one other h k =
       let certificate : k.certificate ≡ h.certificate = laws.certificate bytes k.certificate h.certificate k.text h.text in
       let system : k.system ≡ h.system = sym (one_system_in f laws.range laws.ends laws.system injective mode networks facts h.system k.system h.system_is k.system_is) in

@@ -7,12 +7,11 @@ use Rattle.xc_joint.specs.Answers.{IsAnswer as IsJointAnswer}
 use Rattle.xc_joint.specs.Settling.{NarrowForestsAreSettled}
 use Rattle.xc_lines.specs.JointPart.{IsClaim}
 use Rattle.xc_top.proofs.Leaving.{short_fetched}
-use Rattle.xc_top.proofs.Reading.{answered_later, reached}
+use Rattle.xc_top.proofs.Reading.{content_later, reached}
 use Rattle.xc_top.proofs.SettledParts.{Says, claimed, claims, holds, settled_proves, system_in, wide_verdict}
 use Rattle.xc_top.proofs.Unjudged.{IsUnjudged, given_has, unfetched_unjudged}
 use Rattle.xc_top.specs.Answer.{IsAnswer, IsAnswerOf, IsCommandAnswer, IsFetchedAnswer}
 use Rattle.xc_top.specs.Documents.{unfetched, unfetched_of, first_unfetched}
-use Rattle.xc_top.specs.Judged.{FindingsAndJoint, JudgementOf}
 use Rattle.xc_top.specs.Laws.{AnswersAreOne, AreOneIf, IsCheck}
 use Rattle.xc_top.specs.Run.{IsJudged}
 use Rattle.xc_top.specs.Settled.{ForestsAreSettled, HoldsCertificate, IsSettledAs, SettledIsAccepted, acceptance}
@@ -59,25 +58,29 @@ module _ (laws : Says) (proves : AcceptanceProves) where
       → HoldsCertificate verify written.text files later → IsCommandAnswer (VerifyOf verify) later (acceptance word)
   is_accepted verify files later written word h is_claim settled holding =
       let check = verify.over in
-      let r = reached check FindingsAndJoint files written settled.judged h.answered in
-      let j = r.answered in
+      let r = reached files written (CheckOf check) settled.judged h.answered in
+      let j = r.made in
       let c = claimed laws check.mode r.networks r.report.facts written j word is_claim settled.claims in
       let is = settled_proves proves j.system c.certificate j.kept (subst (λ joint. IsJointAnswer j.system joint) c.settled j.joint_is) in
       let text = holds laws check.mode r.networks r.report.facts written j c.certificate c.settled is.0 in
       inr (record {
         fetched = all_fetched verify written.text files later holding h.fetched;
-        answered = (
-          written.text,
-          holding.certificate,
-          answered_later check (JudgementOf verify.certificate written.text) files later (acceptance word) r.networks r.report r.read r.few holding.report holding.documents
-              (inr (record {
-                certificate = c.certificate;
-                text = text;
-                system = j.system;
-                system_is = system_in laws check.mode r.networks r.report.facts written j;
-                judged = record { kept = j.kept; judgement = Accepted; judgement_is = is.1; is = ap acceptance (sym c.claims) };
-              })),
-        );
+        answered = inr (record {
+          networks = r.networks;
+          report = r.report;
+          content = content_later verify files later r.networks r.report r.content holding.report holding.documents;
+          made = record {
+            bytes = written.text;
+            held = holding.certificate;
+            judged = record {
+              certificate = c.certificate;
+              text = text;
+              system = j.system;
+              system_is = system_in laws check.mode r.networks r.report.facts written j;
+              judged = record { kept = j.kept; judgement = Accepted; judgement_is = is.1; is = ap acceptance (sym c.claims) };
+            };
+          };
+        });
       })
 
   module _ (one : AnswersAreOne) where
@@ -97,15 +100,15 @@ module _ (laws : Says) (proves : AcceptanceProves) where
   pub forests_are_settled : NarrowForestsAreSettled → ForestsAreSettled
   forests_are_settled narrow words check is files forests answer h judged =
       let first = fetched check files answer judged (asked_for (words_of words) (CheckOf check) files answer is h) in
-      let r = reached check FindingsAndJoint files answer judged first.answered in
-      let j = r.answered in
+      let r = reached files answer (CheckOf check) judged first.answered in
+      let j = r.made in
       let system_is = system_in laws check.mode r.networks r.report.facts answer j in
-      let c = narrow j.system j.joint (forests r.networks r.report j.system r.read system_is) j.joint_is in
+      let c = narrow j.system j.joint (forests r.networks r.report j.system r.content system_is) j.joint_is in
       let proof = settled_proves proves j.system c.0 j.kept (subst (λ joint. IsJointAnswer j.system joint) c.1 j.joint_is) in
       record {
         networks = r.networks;
         report = r.report;
-        read = r.read;
+        content = r.content;
         found = j;
         certificate = c.0;
         joint = c.1;

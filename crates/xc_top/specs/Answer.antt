@@ -1,20 +1,42 @@
 -- What a run writes and how it ends, of its words and of what is held.
 use Rattle.std.specs.Prelude.{◌≡◌, ◌⊎◌, ℕ, List, Option, Some, None}
+use Rattle.xc_calc.specs.declared.arc.Network.{Network}
 use Rattle.xc_io.specs.Shelf.{Files}
 use Rattle.xc_lines.specs.Lines.{usage_line}
+use Rattle.xc_report.specs.declared.reports.Fact.{Fact}
+use Rattle.xc_report.specs.declared.reports.Report.{Report}
 use Rattle.xc_top.specs.Answers.{make_answer}
-use Rattle.xc_top.specs.Checks.{IsCheckAnswer, IsVerifyAnswer}
+use Rattle.xc_top.specs.Certified.{IsJudgementIn}
+use Rattle.xc_top.specs.Contents.{HasContent}
 use Rattle.xc_top.specs.Documents.{first_unfetched}
-use Rattle.xc_top.specs.Sums.{IsSumAnswer}
-use Rattle.xc_top.specs.Words.{CommandWords, SumOf, CheckOf, VerifyOf, file_words, words_of}
+use Rattle.xc_top.specs.Findings.{IsFindings, IsJointFindings}
+use Rattle.xc_top.specs.FirstFaults.{IsFirstFault}
+use Rattle.xc_top.specs.Words.{VerifyWords, CommandWords, SumOf, CheckOf, VerifyOf, file_words, words_of}
 use Rattle.xc_top.specs.declared.status.Answer.{Answer}
 use Rattle.xc_top.specs.declared.status.Status.TheVariants.{Usage}
 
--- what is answered of a command whose files are all held
+-- the judgement of the certificate that is held
+pub record IsHeldJudgement (verify : VerifyWords) (files : Files) (networks : List Network) (facts : List Fact) (answer : Answer) : Type 0 where
+  pub bytes : List ℕ
+  pub held : files verify.certificate ≡ Some bytes
+  pub judged : IsJudgementIn verify.over.mode bytes networks facts answer
+
+-- what a command makes of networks and facts: `sum` the findings, `check` these and the joint part, `verify` the judgement of a certificate
+abbrev pub IsMade : CommandWords → Files → List Network → List Fact → Answer → Type 0
+IsMade (SumOf sum) files networks facts answer = IsFindings sum.mode networks facts answer
+IsMade (CheckOf check) files networks facts answer = IsJointFindings check.mode networks facts answer
+IsMade (VerifyOf verify) files networks facts answer = IsHeldJudgement verify files networks facts answer
+
+-- the answer is what the command makes of the content
+pub record IsMadeOfContent (command : CommandWords) (files : Files) (answer : Answer) : Type 0 where
+  pub networks : List Network
+  pub report : Report
+  pub content : HasContent command files networks report
+  pub made : IsMade command files networks report.facts answer
+
+-- what is answered of a command whose files are all held: the refusal of their first fault, or what the command makes of their content
 abbrev pub IsHeldAnswer : CommandWords → Files → Answer → Type 0
-IsHeldAnswer (SumOf sum) files answer = IsSumAnswer sum files answer
-IsHeldAnswer (CheckOf check) files answer = IsCheckAnswer check files answer
-IsHeldAnswer (VerifyOf verify) files answer = IsVerifyAnswer verify files answer
+IsHeldAnswer command files answer = IsFirstFault command files answer ⊎ IsMadeOfContent command files answer
 
 -- all files are held and none is too long, and this is answered of them
 pub record IsFetchedAnswer (command : CommandWords) (files : Files) (answer : Answer) : Type 0 where

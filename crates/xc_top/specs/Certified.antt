@@ -1,5 +1,5 @@
 -- What is answered of a certificate.
-use Rattle.std.specs.Prelude.{◌≡◌, ◌⊎◌, ℕ, List, Some}
+use Rattle.std.specs.Prelude.{◌≡◌, ℕ, List, Some}
 use Rattle.xc_bind.specs.Bindings.{bindings_of}
 use Rattle.xc_bind.specs.Systems.{IsSystemOf}
 use Rattle.xc_calc.specs.declared.arc.Network.{Network}
@@ -42,7 +42,7 @@ pub record IsJudgedBy (system : Constraints) (certificate : Certificate) (facts 
   pub is : answer ≡ make_answer (judged_status judgement) (judgement_line facts certificate judgement)
 
 -- the judgement of the certificate in these bytes over the system of facts
-pub record IsJudged (mode : Mode) (bytes : List ℕ) (networks : List Network) (facts : List Fact) (answer : Answer) : Type 0 where
+pub record IsJudgementIn (mode : Mode) (bytes : List ℕ) (networks : List Network) (facts : List Fact) (answer : Answer) : Type 0 where
   pub certificate : Certificate
   pub text : IsTextOf bytes certificate
   pub system : Constraints
@@ -52,7 +52,3 @@ pub record IsJudged (mode : Mode) (bytes : List ℕ) (networks : List Network) (
 -- the bytes are no certificate, and the first line of theirs that fits nowhere is named
 abbrev pub IsNoCertificate : List ℕ → List ℕ → Answer → Type 0
 IsNoCertificate word bytes answer = (n : ℕ) × IsFaultAt bytes n × (certificate_refusal word (NotCertificate n) ≡ Some answer)
-
--- what is answered of these bytes of the file of this word: that they are no certificate, or the judgement of the one that they are
-abbrev pub IsCertified : Mode → List ℕ → List ℕ → List Network → List Fact → Answer → Type 0
-IsCertified mode word bytes networks facts answer = IsNoCertificate word bytes answer ⊎ IsJudged mode bytes networks facts answer

@@ -1,10 +1,10 @@
 pub mod Answer
 pub mod Answers
 pub mod Certified
-pub mod Checks
+pub mod Contents
 pub mod Documents
 pub mod Findings
-pub mod Judged
+pub mod FirstFaults
 pub mod Laws
 pub mod Proven
 pub mod Run

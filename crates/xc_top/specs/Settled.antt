@@ -14,9 +14,9 @@ use Rattle.xc_system.specs.declared.types.Certificate.{Certificate}
 use Rattle.xc_top.specs.Answer.{IsAnswerOf}
 use Rattle.xc_top.specs.Answers.{make_answer}
 use Rattle.xc_top.specs.Certified.{IsSystemIn}
+use Rattle.xc_top.specs.Contents.{HasContent}
 use Rattle.xc_top.specs.Documents.{limit}
 use Rattle.xc_top.specs.Findings.{IsJointFindings, is_too_wide}
-use Rattle.xc_top.specs.Proven.{IsReadFrom}
 use Rattle.xc_top.specs.Run.{IsJudged}
 use Rattle.xc_top.specs.Words.{CheckWords, VerifyWords, CheckOf, VerifyOf, words_of}
 use Rattle.xc_top.specs.declared.status.Answer.{Answer}
@@ -50,9 +50,9 @@ SettledIsAccepted = (words others : List (List ℕ)) (verify : VerifyWords) → 
 
 -- ---- narrow forests are settled
 
--- the system of the report that is held, over the documents that are held, is one of narrow forests
+-- the system of what words and files have is one of narrow forests
 abbrev pub HoldsNarrowForests : CheckWords → Files → Type 0
-HoldsNarrowForests check files = (networks : List Network) (report : Report) (system : Constraints) → IsReadFrom check files networks report
+HoldsNarrowForests check files = (networks : List Network) (report : Report) (system : Constraints) → HasContent (CheckOf check) files networks report
     → IsSystemIn check.mode networks report.facts system → HasNarrowForests system
 
 -- behind the findings of the report that is held stands a certificate, which proves what the joint part claims of the system of them; and
@@ -60,7 +60,7 @@ HoldsNarrowForests check files = (networks : List Network) (report : Report) (sy
 pub record IsSettledBy (check : CheckWords) (files : Files) (answer : Answer) : Type 0 where
   pub networks : List Network
   pub report : Report
-  pub read : IsReadFrom check files networks report
+  pub content : HasContent (CheckOf check) files networks report
   pub found : IsJointFindings check.mode networks report.facts answer
   pub certificate : Certificate
   pub joint : found.joint ≡ Settled certificate

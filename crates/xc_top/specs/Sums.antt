@@ -1,17 +1,15 @@
--- What `sum` answers.
-use Rattle.std.specs.Prelude.{◌≡◌, ◌⊎◌, ◌==◌, ℕ, pos, negsuc, List, [], ◌∷◌, map, Bool, true, false, Option, Some, None, is_some, option_and_then, Result, Ok, Err, codes, refl, if◌then◌else◌}
+-- What the words of `sum` name in a report, and the network that they are.
+use Rattle.std.specs.Prelude.{◌≡◌, ◌==◌, ℕ, pos, negsuc, List, [], ◌∷◌, map, Bool, true, false, Option, Some, None, is_some, option_and_then, codes, refl, if◌then◌else◌}
 use Rattle.std.specs.FinMap.{get}
-use Rattle.std.specs.List.{zip, list_any}
+use Rattle.std.specs.List.{list_any}
 use Rattle.std.specs.List.Sorted.{IsStrictlySortedBy}
 use Rattle.std.specs.Option.{option_map_or}
 use Rattle.std.specs.Ordering.{nat_cmp}
 use Rattle.xc_calc.specs.declared.arc.Arc.{Arc}
 use Rattle.xc_calc.specs.declared.arc.Network.{Network}
 use Rattle.xc_names.specs.NameSets.{is_among}
-use Rattle.xc_lists.specs.Places.{first_given}
 use Rattle.xc_decimal.specs.Numbers.{shortest_if}
 use Rattle.xc_decimal.specs.Shortest.{Shortest}
-use Rattle.xc_io.specs.Shelf.{Files}
 use Rattle.xc_names.specs.Names.{number_of}
 use Rattle.xc_chars.specs.PlainNames.{split}
 use Rattle.xc_names.specs.Prefixes.{Bindings}
@@ -19,15 +17,9 @@ use Rattle.xc_names.specs.declared.expanded.Expanded.{Expanded}
 use Rattle.xc_names.specs.declared.expanded.NameId.{NameId}
 use Rattle.xc_names.specs.declared.expansion.NameFault.TheVariants.{NoPrefix}
 use Rattle.xc_names.specs.declared.wanted.Wanted.{Wanted}
-use Rattle.xc_report.specs.Opened.{Opened, opened}
-use Rattle.xc_report.specs.declared.reports.ReportFault.{ReportFault}
-use Rattle.xc_top.specs.Answers.{name_refusal, report_refusal}
-use Rattle.xc_top.specs.Judged.{Asked, FindingsAlone, IsFactsAnswer}
+use Rattle.xc_top.specs.Answers.{name_refusal}
 use Rattle.xc_top.specs.Words.{SumWords, name_of, is_negative}
 use Rattle.xc_top.specs.declared.status.Answer.{Answer}
-
-abbrev pub sum_asked : SumWords → Asked
-sum_asked sum = record { word = sum.report; mode = sum.mode; sought = FindingsAlone }
 
 -- the words of the total and of the contributors, each with the name in it
 abbrev pub named_words : SumWords → List (List ℕ × List ℕ)
@@ -50,6 +42,7 @@ abbrev pub weight_of : Bool → Shortest
 weight_of false = record { digits = pos 1; places = 0; shortest = shortest_if (pos 1, 0) refl }
 weight_of true = record { digits = negsuc 0; places = 0; shortest = shortest_if (negsuc 0, 0) refl }
 
+-- the arc from the total to a contributor, by the word and the number of its name
 abbrev pub arc_to : NameId → List ℕ × NameId → Arc
 arc_to total term = record { from = total; to = term.1; weight = weight_of (is_negative term.0) }
 
@@ -72,24 +65,3 @@ pub record AreSumNumbers (prefixes : Bindings) (names : List Expanded) (sum : Su
   pub terms_are : map (λ term. number_in prefixes names (name_of term)) sum.terms ≡ map (λ id. Some id.0) terms
   pub nodes : AreNodesOf (total ∷ terms) (map (λ id. id.0) wanted.nodes)
   pub typed : wanted.typed ≡ []
-
--- what is answered of an opened report that declares the prefixes of all names, whatever the numbers of these
-pub record IsNumberedAnswer (sum : SumWords) (opened : Opened) (answer : Answer) : Type 0 where
-  pub bound : first_given (unbound opened.prefixes sum.report) (named_words sum) ≡ None
-  pub names : List Expanded
-  pub total : NameId
-  pub terms : List NameId
-  pub wanted : Wanted
-  pub numbers : AreSumNumbers opened.prefixes names sum total terms wanted
-  pub answered : IsFactsAnswer (sum_asked sum) names (sum_network total (zip sum.terms terms) ∷ []) wanted opened answer
-
--- what is answered of what was read of the report: the first name whose prefix is not declared, or else what is answered of its facts
-abbrev pub IsReportAnswer : SumWords → Result Opened ReportFault → Answer → Type 0
-IsReportAnswer sum (Ok opened) answer = (first_given (unbound opened.prefixes sum.report) (named_words sum) ≡ Some answer) ⊎ IsNumberedAnswer sum opened answer
-IsReportAnswer sum (Err fault) answer = report_refusal sum.report fault ≡ Some answer
-
--- what is answered of the file that is held
-pub record IsSumAnswer (sum : SumWords) (files : Files) (answer : Answer) : Type 0 where
-  pub bytes : List ℕ
-  pub held : files sum.report ≡ Some bytes
-  pub answered : IsReportAnswer sum (opened bytes) answer

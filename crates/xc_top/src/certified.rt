@@ -2,9 +2,10 @@
 ghost use Rattle.std.specs.Prelude.{◌≡◌, IfOk, length, false};
 ghost use Rattle.xc_cert.specs.Certificates.{IsTextOf};
 ghost use Rattle.xc_system.specs.declared.types.Certificate.{Certificate};
+ghost use Rattle.xc_top.specs.Steps.Chain.{IsCertified};
 ghost use Rattle.xc_top.specs.Steps.Stops.{Answers, IfStopped, IsSettled};
-ghost use Rattle.xc_top.specs.Certified.{IsCertified, IsNoCertificate, IsSystemIn, IsJudgedBy, judged_status};
-ghost use Rattle.xc_top.specs.Judged.{are_too_many};
+ghost use Rattle.xc_top.specs.Certified.{IsNoCertificate, IsSystemIn, IsJudgedBy, judged_status};
+ghost use Rattle.xc_top.specs.Contents.{are_too_many};
 
 use crate::refusals::certificate_refusal;
 use crate::status::{Answer, Status, Stop};

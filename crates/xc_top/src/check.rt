@@ -2,7 +2,7 @@
 ghost use Rattle.std.specs.Prelude.{◌≡◌, IfOk};
 ghost use Rattle.xc_report.specs.Opened.{opened};
 ghost use Rattle.xc_top.specs.Steps.Stops.{Answers, IfStopped, IsSettled};
-ghost use Rattle.xc_top.specs.Checks.{IsDocumentsAnswer, IsOpenedAnswer, over_asked};
+ghost use Rattle.xc_top.specs.Steps.Chain.{IsDocumentsAnswer, IsOpenedAnswer, over_asked};
 ghost use Rattle.xc_top.specs.Steps.Named.{named_check};
 ghost use Rattle.xc_top.specs.Taxonomies.{IsTaxonomyOf, IsTaxonomyRefusal};
 ghost use Rattle.xc_top.specs.Steps.Views.{sought};

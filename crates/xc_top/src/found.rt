@@ -4,7 +4,7 @@ ghost use Rattle.xc_bind.specs.Bindings.{bindings_of};
 ghost use Rattle.xc_bind.specs.Placed.{IsPlaced};
 ghost use Rattle.xc_points.specs.Gathered.{ArePoints};
 ghost use Rattle.xc_top.specs.Findings.{AreVerdicts, IsFindings, findings_of};
-ghost use Rattle.xc_top.specs.Judged.{are_too_many};
+ghost use Rattle.xc_top.specs.Contents.{are_too_many};
 ghost use Rattle.xc_top.specs.Steps.Stops.{IsSettled};
 
 use crate::status::Answer;

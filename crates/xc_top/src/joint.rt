@@ -3,7 +3,7 @@ ghost use Rattle.std.specs.Prelude.{◌≡◌, ◌||◌, IfOk, false, length, if
 ghost use Rattle.std.specs.List.{list_any};
 ghost use Rattle.xc_joint.specs.Kinds.{kind_of};
 ghost use Rattle.xc_top.specs.Findings.{IsJointFindings, is_caused, is_contradicted, has_finding, is_too_wide};
-ghost use Rattle.xc_top.specs.Judged.{are_too_many};
+ghost use Rattle.xc_top.specs.Contents.{are_too_many};
 ghost use Rattle.xc_top.specs.Steps.Joined.{IsPartOf, status_by};
 ghost use Rattle.xc_top.specs.Steps.Stops.{IsSettled};
 ghost use Rattle.xc_top.specs.declared.status.Status.TheVariants as status;

@@ -2,7 +2,8 @@
 ghost use Rattle.std.specs.Prelude.{◌≡◌, ◌<◌, ◌*◌, ◌+◌, ◌^◌, IfOk, length, false};
 ghost use Rattle.xc_report.specs.Drafts.{draft_view};
 ghost use Rattle.xc_top.specs.Steps.Stops.{Answers, IsSettled};
-ghost use Rattle.xc_top.specs.Judged.{IsFactsAnswer, IsCounted, are_too_many};
+ghost use Rattle.xc_top.specs.Contents.{are_too_many};
+ghost use Rattle.xc_top.specs.Steps.Chain.{IsFactsAnswer, IsCounted};
 ghost use Rattle.xc_top.specs.Steps.Views.{asked};
 
 use crate::certified::answer_certificate;

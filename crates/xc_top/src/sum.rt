@@ -8,7 +8,8 @@ ghost use Rattle.xc_report.specs.Drafts.{draft_view};
 ghost use Rattle.xc_report.specs.Opened.{opened};
 ghost use Rattle.xc_top.specs.Steps.Stops.{Answers, IfStopped, IsSettled};
 ghost use Rattle.xc_top.specs.Steps.Named.{named_sum};
-ghost use Rattle.xc_top.specs.Sums.{IsReportAnswer, AreNodesOf, is_number_of, AreSumNumbers, sum_asked, sum_network, arc_to, weight_of, named_words, unbound, number_in};
+ghost use Rattle.xc_top.specs.Steps.Chain.{IsReportAnswer, sum_asked};
+ghost use Rattle.xc_top.specs.Sums.{AreNodesOf, is_number_of, AreSumNumbers, sum_network, arc_to, weight_of, named_words, unbound, number_in};
 ghost use Rattle.xc_top.specs.Steps.Views.{asked};
 ghost use Rattle.xc_top.specs.Words.{texts, name_of};
 

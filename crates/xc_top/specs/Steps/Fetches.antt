@@ -2,9 +2,9 @@
 use Rattle.std.specs.Prelude.{◌≡◌, ◌+◌, ◌≤◌, ◌⊎◌, ℕ, List, Bool, true, Option, Some, IfSome}
 use Rattle.xc_io.specs.Faults.{Rose}
 use Rattle.xc_io.specs.Shelf.{Files}
-use Rattle.xc_top.specs.Answer.{IsCommandAnswer}
 use Rattle.xc_top.specs.Documents.{first_unfetched}
 use Rattle.xc_top.specs.Run.{IsReadFaultOf}
+use Rattle.xc_top.specs.Steps.Chain.{IsCommandStep}
 use Rattle.xc_top.specs.Steps.Stops.{IsSettled}
 use Rattle.xc_top.specs.Words.{CommandWords, file_words}
 use Rattle.xc_top.specs.declared.status.Answer.{Answer}
@@ -36,4 +36,4 @@ IsUnfetched held steady faults old new words answer = IsFailed held steady fault
 
 -- what is answered of a command
 abbrev pub IsOver : {S : Type 0} → (S → Option Files) → (S → Bool) → (S → ℕ) → S → S → CommandWords → Answer → Type 0
-IsOver held steady faults old new command answer = IsFailed held steady faults old new (file_words command) answer ⊎ IsTold held faults old new answer (λ files. IsCommandAnswer command files answer)
+IsOver held steady faults old new command answer = IsFailed held steady faults old new (file_words command) answer ⊎ IsTold held faults old new answer (λ files. IsCommandStep command files answer)

@@ -1,5 +1,5 @@
 -- What borrowed questions say.
-use Rattle.xc_top.specs.Judged.{Asked, Sought, FindingsAlone, FindingsAndJoint, JudgementOf}
+use Rattle.xc_top.specs.Steps.Chain.{Asked, Sought, FindingsAlone, FindingsAndJoint, JudgementOf}
 use Rattle.xc_top.specs.declared.judged.Question.{Question}
 use Rattle.xc_top.specs.declared.judged.Goal.{Goal}
 use Rattle.xc_top.specs.declared.judged.Goal.TheVariants as goal

@@ -26,6 +26,7 @@ use Rattle.xc_top.specs.Answer.{IsAnswer, IsCommandAnswer}
 use Rattle.xc_top.specs.Answers.{report_refusal}
 use Rattle.xc_top.specs.Documents.{first_unfetched, IsContentOf, IsDocumentOf, AreDocumentsOf}
 use Rattle.xc_top.specs.Steps.Chain.{over_asked, IsOpenedAnswer, IsDocumentsAnswer, IsOverFiles, IsVerifyAnswer, sum_asked, IsNumberedAnswer, IsReportAnswer, IsSumAnswer, IsHeldStep, Asked, Sought, FindingsAndJoint, JudgementOf, IsJoint, IsCounted, IsStated, IsRead, IsFactsAnswer}
+use Rattle.xc_top.specs.Run.{IsJudged}
 use Rattle.xc_top.specs.Laws.{AreOneIf, DocumentsAreOne, IsCheck}
 use Rattle.xc_top.specs.Sums.{sum_network, named_words, unbound}
 use Rattle.xc_top.specs.Words.{CommandWords, SumWords, CheckWords, VerifyWords, SumOf, CheckOf, VerifyOf, file_words}
@@ -86,7 +87,7 @@ module _ (below : Below) (documents_are_one : DocumentsAreOne) where
       (renamed : IsRenamed names networks wanted other_names other_networks other_wanted) where
     -- facts that are stated alike have one answer
     one_stated : (facts : List StatedFact) (one other : Answer)
-        → IsStated asked names networks facts one → IsStated asked other_names other_networks (map (renamed_stated renamed.by) facts) other → AreOneIf (IsJoint asked.sought) one other
+        → IsStated asked names networks facts one → IsStated asked other_names other_networks (map (renamed_stated renamed.by) facts) other → AreOneIf (IsJoint asked.sought × IsJudged one.status) one other
     one_stated facts one other h k =
         let same : k.report.facts ≡ map (renamed_fact renamed.by) h.report.facts =
         below.facts renamed.by h.after k.after facts h.report k.report h.numbered k.numbered in
@@ -95,11 +96,11 @@ module _ (below : Below) (documents_are_one : DocumentsAreOne) where
         (subst (λ ns. IsCounted asked ns k.report.facts other) renamed.networks_are k.counted))
 
     one_read : (stated : Result (List StatedFact) ReportFault) (one other : Answer)
-        → IsRead asked names networks stated one → IsRead asked other_names other_networks (renamed_read renamed.by stated) other → AreOneIf (IsJoint asked.sought) one other
+        → IsRead asked names networks stated one → IsRead asked other_names other_networks (renamed_read renamed.by stated) other → AreOneIf (IsJoint asked.sought × IsJudged one.status) one other
     one_read (Ok facts) one other h k = one_stated facts one other h k
     one_read (Err fault) one other h k = inl (same_some one other (report_refusal asked.word fault) h k)
 
-    one_facts : (report : Opened) (one other : Answer) → IsFactsAnswer asked names networks wanted report one → IsFactsAnswer asked other_names other_networks other_wanted report other → AreOneIf (IsJoint asked.sought) one other
+    one_facts : (report : Opened) (one other : Answer) → IsFactsAnswer asked names networks wanted report one → IsFactsAnswer asked other_names other_networks other_wanted report other → AreOneIf (IsJoint asked.sought × IsJudged one.status) one other
     one_facts report one other h k =
         let known = known_of report.prefixes names wanted in
         let same : stated_facts (known_of report.prefixes other_names other_wanted) report.facts ≡ renamed_read renamed.by (stated_facts known report.facts) =
@@ -112,12 +113,12 @@ module _ (below : Below) (documents_are_one : DocumentsAreOne) where
   module _ (asked : Asked) where
     one_opened : (names other_names : List Expanded) (networks other_networks : List Network) (wanted other_wanted : Wanted)
         → IsRenamed names networks wanted other_names other_networks other_wanted → (report : Result Opened ReportFault) (one other : Answer)
-        → IsOpenedAnswer asked names networks wanted report one → IsOpenedAnswer asked other_names other_networks other_wanted report other → AreOneIf (IsJoint asked.sought) one other
+        → IsOpenedAnswer asked names networks wanted report one → IsOpenedAnswer asked other_names other_networks other_wanted report other → AreOneIf (IsJoint asked.sought × IsJudged one.status) one other
     one_opened names other_names networks other_networks wanted other_wanted renamed (Ok report) one other h k =
         one_facts asked names other_names networks other_networks wanted other_wanted renamed report one other h k
     one_opened names other_names networks other_networks wanted other_wanted renamed (Err fault) one other h k = inl (same_some one other (report_refusal asked.word fault) h k)
 
-    one_over : (kind : ArcKind) (report : List ℕ) (documents : List Document) (one other : Answer) → IsDocumentsAnswer kind asked report documents one → IsDocumentsAnswer kind asked report documents other → AreOneIf (IsJoint asked.sought) one other
+    one_over : (kind : ArcKind) (report : List ℕ) (documents : List Document) (one other : Answer) → IsDocumentsAnswer kind asked report documents one → IsDocumentsAnswer kind asked report documents other → AreOneIf (IsJoint asked.sought × IsJudged one.status) one other
     one_over kind report documents one other (inl h) (inl k) = inl (one_refusal below.tell below.stand kind documents one other h k)
     one_over kind report documents one other (inl h) (inr k) = absurd (refused_or_read below.tell below.stand kind documents one k.names k.networks k.wanted h k.taxonomy)
     one_over kind report documents one other (inr h) (inl k) = absurd (refused_or_read below.tell below.stand kind documents other h.names h.networks h.wanted k h.taxonomy)
@@ -126,7 +127,7 @@ module _ (below : Below) (documents_are_one : DocumentsAreOne) where
         (one_taxonomy below.tell below.stand below.networks kind documents h.names h.networks h.wanted k.names k.networks k.wanted h.taxonomy k.taxonomy)
         (opened report) one other h.answered k.answered
 
-  one_over_files : (check : CheckWords) (sought : Sought) (files : Files) (one other : Answer) → IsOverFiles check sought files one → IsOverFiles check sought files other → AreOneIf (IsJoint sought) one other
+  one_over_files : (check : CheckWords) (sought : Sought) (files : Files) (one other : Answer) → IsOverFiles check sought files one → IsOverFiles check sought files other → AreOneIf (IsJoint sought × IsJudged one.status) one other
   one_over_files check sought files one other h k =
       let bytes : h.bytes ≡ k.bytes = same_bytes h.bytes k.bytes (files check.report) h.held k.held in
       let documents : h.documents ≡ k.documents = documents_are_one files check.documents h.documents k.documents h.read k.read in
@@ -134,7 +135,7 @@ module _ (below : Below) (documents_are_one : DocumentsAreOne) where
       one_over asked check.kind k.bytes k.documents one other
       (subst (λ ds. IsDocumentsAnswer check.kind asked k.bytes ds one) documents (subst (λ bs. IsDocumentsAnswer check.kind asked bs h.documents one) bytes h.answered)) k.answered
 
-  one_verified : (verify : VerifyWords) (files : Files) (one other : Answer) → IsVerifyAnswer verify files one → IsVerifyAnswer verify files other → AreOneIf ⊥ one other
+  one_verified : (verify : VerifyWords) (files : Files) (one other : Answer) → IsVerifyAnswer verify files one → IsVerifyAnswer verify files other → AreOneIf (⊥ × IsJudged one.status) one other
   one_verified verify files one other h k =
       let bytes : h.0 ≡ k.0 = same_bytes h.0 k.0 (files verify.certificate) h.1 k.1 in
       one_over_files verify.over (JudgementOf verify.certificate k.0) files one other
@@ -142,37 +143,37 @@ module _ (below : Below) (documents_are_one : DocumentsAreOne) where
 
   -- ---- `sum`
 
-  one_numbered : (sum : SumWords) (report : Opened) (one other : Answer) → IsNumberedAnswer sum report one → IsNumberedAnswer sum report other → AreOneIf ⊥ one other
+  one_numbered : (sum : SumWords) (report : Opened) (one other : Answer) → IsNumberedAnswer sum report one → IsNumberedAnswer sum report other → AreOneIf (⊥ × IsJudged one.status) one other
   one_numbered sum report one other h k =
       one_facts (sum_asked sum) h.names k.names (sum_network h.total (zip sum.terms h.terms) ∷ []) (sum_network k.total (zip sum.terms k.terms) ∷ []) h.wanted k.wanted
       (one_sum below.tell below.stand report.prefixes h.names k.names sum h.total k.total h.terms k.terms h.wanted k.wanted h.numbers k.numbers)
       report one other h.answered k.answered
 
-  one_report : (sum : SumWords) (report : Result Opened ReportFault) (one other : Answer) → IsReportAnswer sum report one → IsReportAnswer sum report other → AreOneIf ⊥ one other
+  one_report : (sum : SumWords) (report : Result Opened ReportFault) (one other : Answer) → IsReportAnswer sum report one → IsReportAnswer sum report other → AreOneIf (⊥ × IsJudged one.status) one other
   one_report sum (Ok report) one other (inl h) (inl k) = inl (same_some one other (first_given (unbound report.prefixes sum.report) (named_words sum)) h k)
   one_report sum (Ok report) one other (inl h) (inr k) = absurd (some_none one (first_given (unbound report.prefixes sum.report) (named_words sum)) h k.bound)
   one_report sum (Ok report) one other (inr h) (inl k) = absurd (some_none other (first_given (unbound report.prefixes sum.report) (named_words sum)) k h.bound)
   one_report sum (Ok report) one other (inr h) (inr k) = one_numbered sum report one other h k
   one_report sum (Err fault) one other h k = inl (same_some one other (report_refusal sum.report fault) h k)
 
-  one_summed : (sum : SumWords) (files : Files) (one other : Answer) → IsSumAnswer sum files one → IsSumAnswer sum files other → AreOneIf ⊥ one other
+  one_summed : (sum : SumWords) (files : Files) (one other : Answer) → IsSumAnswer sum files one → IsSumAnswer sum files other → AreOneIf (⊥ × IsJudged one.status) one other
   one_summed sum files one other h k =
       let bytes : h.bytes ≡ k.bytes = same_bytes h.bytes k.bytes (files sum.report) h.held k.held in
       one_report sum (opened k.bytes) one other (subst (λ bs. IsReportAnswer sum (opened bs) one) bytes h.answered) k.answered
 
   -- ---- commands
 
-  one_held : (command : CommandWords) (files : Files) (one other : Answer) → IsHeldStep command files one → IsHeldStep command files other → AreOneIf (IsCheck (Some command)) one other
+  one_held : (command : CommandWords) (files : Files) (one other : Answer) → IsHeldStep command files one → IsHeldStep command files other → AreOneIf (IsCheck (Some command) × IsJudged one.status) one other
   one_held (SumOf sum) files one other h k = one_summed sum files one other h k
   one_held (CheckOf check) files one other h k = one_over_files check FindingsAndJoint files one other h k
   one_held (VerifyOf verify) files one other h k = one_verified verify files one other h k
 
-  one_command : (command : CommandWords) (files : Files) (one other : Answer) → IsCommandAnswer command files one → IsCommandAnswer command files other → AreOneIf (IsCheck (Some command)) one other
+  one_command : (command : CommandWords) (files : Files) (one other : Answer) → IsCommandAnswer command files one → IsCommandAnswer command files other → AreOneIf (IsCheck (Some command) × IsJudged one.status) one other
   one_command command files one other (inl h) (inl k) = inl (same_some one other (first_unfetched files (file_words command)) h k)
   one_command command files one other (inl h) (inr k) = absurd (some_none one (first_unfetched files (file_words command)) h k.fetched)
   one_command command files one other (inr h) (inl k) = absurd (some_none other (first_unfetched files (file_words command)) k h.fetched)
   one_command command files one other (inr h) (inr k) = one_held command files one other (to_steps command files one h).answered (to_steps command files other k).answered
 
-  pub one_answer : (words : Option CommandWords) (files : Files) (one other : Answer) → IsAnswer words files one → IsAnswer words files other → AreOneIf (IsCheck words) one other
+  pub one_answer : (words : Option CommandWords) (files : Files) (one other : Answer) → IsAnswer words files one → IsAnswer words files other → AreOneIf (IsCheck words × IsJudged one.status) one other
   one_answer None files one other h k = inl (h ∙ sym k)
   one_answer (Some command) files one other h k = one_command command files one other h k

@@ -1,5 +1,5 @@
 -- Facts, networks and points with other numbers for their concepts have the same lines, and facts one answer.
-use Rattle.std.proofs.Common.{inl, inr, append_assoc, ◌≡◌, ◌++◌, ◌||◌, ℕ, codes, List, [], map, length, filter, Bool, true, false, Option, Some, None, MatchBool, option_map, option_and_then, slice_get, flat_map, zip, if◌then◌else◌, refl, sym, ap, ap₂, subst, ◌∙◌}
+use Rattle.std.proofs.Common.{inl, inr, append_assoc, ◌≡◌, ◌++◌, ◌||◌, ℕ, codes, List, [], map, length, filter, Bool, true, false, cond, Option, Some, None, MatchBool, option_map, option_and_then, slice_get, flat_map, zip, if◌then◌else◌, refl, sym, ap, ap₂, subst, ◌∙◌}
 use Rattle.std.proofs.Math.ListN.{length-map}
 use Rattle.std.proofs.lemmas.List.Folds.{flat_map-map}
 use Rattle.std.proofs.lemmas.Option.{slice_get-map}
@@ -33,9 +33,10 @@ use Rattle.xc_top.proofs.RenamedVerdicts.{one_verdicts}
 use Rattle.xc_report.specs.Renamed.{renamed_fact}
 use Rattle.xc_top.proofs.Renaming.{IsInjective, renamed_network, renamed_point}
 use Rattle.xc_top.specs.Answers.{make_answer, refused}
-use Rattle.xc_top.specs.Findings.{is_inconsistent, is_too_wide, is_empty_point, is_contradicted, is_caused, status_of, joint_status, AreVerdicts, IsFindings, IsJointFindings, findings_of}
+use Rattle.xc_top.specs.Findings.{has_finding, is_inconsistent, is_too_wide, is_empty_point, is_contradicted, is_caused, status_of, joint_status, AreVerdicts, IsFindings, IsJointFindings, findings_of}
 use Rattle.xc_top.specs.Contents.{are_too_many}
 use Rattle.xc_top.specs.Steps.Chain.{Asked, Sought, FindingsAlone, FindingsAndJoint, JudgementOf, IsJoint, IsSought, IsCounted}
+use Rattle.xc_top.specs.Run.{IsJudged}
 use Rattle.xc_top.specs.Laws.{AreOfOneKind, AreOneIf, kind_line}
 use Rattle.xc_top.specs.declared.status.Answer.{Answer}
 use Rattle.xc_top.specs.declared.status.Status.TheVariants.{Sound, Findings, TooWide}
@@ -179,14 +180,25 @@ module _ (laws : Judges) (f : ℕ → ℕ) (injective : IsInjective f) (mode : M
         other_is = ap (λ a. a.text) k.is ∙ ap₂ (λ found lines. found ++ lines) found.lines (second.1 ∙ ap (λ kind. kind_line kind ++ second.0) (sym kind));
       }
 
-  same_sought : (sought : Sought) (one other : Answer) → IsSought mode sought networks facts one → IsSought mode sought (map (renamed_network f) networks) (map (renamed_fact f) facts) other → AreOneIf (IsJoint sought) one other
+  -- where the joint part is asked the bindings are judged
+  judged_joint : (one : Answer) → IsJointFindings mode networks facts one → IsJudged one.status
+  judged_joint one h =
+      subst (λ a. IsJudged a.status) (sym h.is)
+      (by (has_finding h.points.points h.verdicts || is_contradicted (kind_of h.joint)) (list_any is_too_wide h.verdicts || is_caused (kind_of h.joint)))
+    where
+      by : (found wide : Bool) → IsJudged (cond found Findings (cond wide TooWide Sound))
+      by true wide = inr (inl refl)
+      by false true = inr (inr refl)
+      by false false = inl refl
+
+  same_sought : (sought : Sought) (one other : Answer) → IsSought mode sought networks facts one → IsSought mode sought (map (renamed_network f) networks) (map (renamed_fact f) facts) other → AreOneIf (IsJoint sought × IsJudged one.status) one other
   same_sought FindingsAlone one other h k = inl (same_findings one other h k)
-  same_sought FindingsAndJoint one other h k = inr (tt, same_joint one other h k)
+  same_sought FindingsAndJoint one other h k = inr ((tt, judged_joint one h), same_joint one other h k)
   same_sought (JudgementOf word bytes) one other h k = inl (same_certified laws.certifies f injective mode word bytes networks facts one other h k)
 
 -- facts have one answer, whatever the numbers of names
 pub one_counted : Judges → (f : ℕ → ℕ) → IsInjective f → (asked : Asked) (networks : List Network) (facts : List Fact) (one other : Answer)
-    → IsCounted asked networks facts one → IsCounted asked (map (renamed_network f) networks) (map (renamed_fact f) facts) other → AreOneIf (IsJoint asked.sought) one other
+    → IsCounted asked networks facts one → IsCounted asked (map (renamed_network f) networks) (map (renamed_fact f) facts) other → AreOneIf (IsJoint asked.sought × IsJudged one.status) one other
 one_counted laws f injective asked networks facts one other h k =
     by (are_too_many (length facts) (length networks)) h
     (subst (λ many. MatchBool many (other ≡ refused asked.word (codes "xc:tooMany")) (IsSought asked.mode asked.sought (map (renamed_network f) networks) (map (renamed_fact f) facts) other)) many k)
@@ -195,6 +207,6 @@ one_counted laws f injective asked networks facts one other h k =
     many = ap₂ (λ m n. are_too_many m n) (length-map facts (renamed_fact f)) (length-map networks (renamed_network f))
 
     by : (b : Bool) → MatchBool b (one ≡ refused asked.word (codes "xc:tooMany")) (IsSought asked.mode asked.sought networks facts one)
-        → MatchBool b (other ≡ refused asked.word (codes "xc:tooMany")) (IsSought asked.mode asked.sought (map (renamed_network f) networks) (map (renamed_fact f) facts) other) → AreOneIf (IsJoint asked.sought) one other
+        → MatchBool b (other ≡ refused asked.word (codes "xc:tooMany")) (IsSought asked.mode asked.sought (map (renamed_network f) networks) (map (renamed_fact f) facts) other) → AreOneIf (IsJoint asked.sought × IsJudged one.status) one other
     by true h k = inl (h ∙ sym k)
     by false h k = same_sought laws f injective asked.mode networks facts asked.sought one other h k

@@ -89,11 +89,11 @@ module _ (laws : Says) (proves : AcceptanceProves) where
         let first = fetched verify.over files written settled.judged (asked_for (words_of words) (CheckOf verify.over) files written is h) in
         let accepted : IsAnswerOf others later (acceptance word) =
         subst (λ w. IsAnswer w later (acceptance word)) (sym others_are) (is_accepted verify files later written word first is_claim settled holding) in
-        same (subst (λ w. AreOneIf (IsCheck w) answer (acceptance word)) others_are (one others later answer (acceptance word) k accepted))
+        same (subst (λ w. AreOneIf (IsCheck w × IsJudged answer.status) answer (acceptance word)) others_are (one others later answer (acceptance word) k accepted))
       where
-        same : AreOneIf ⊥ answer (acceptance word) → answer ≡ acceptance word
+        same : AreOneIf (⊥ × IsJudged answer.status) answer (acceptance word) → answer ≡ acceptance word
         same (inl e) = e
-        same (inr none) = absurd none.0
+        same (inr none) = absurd none.0.0
 
   -- ---- narrow forests
 

@@ -4,6 +4,7 @@ use Rattle.xc_io.specs.Shelf.{Files}
 use Rattle.xc_joint.specs.Kinds.{Kind, Solved, Contradicted, Caused}
 use Rattle.xc_top.specs.Answer.{IsAnswerOf}
 use Rattle.xc_top.specs.Documents.{AreDocumentsOf}
+use Rattle.xc_top.specs.Run.{IsJudged}
 use Rattle.xc_top.specs.Words.{CommandWords, SumOf, CheckOf, VerifyOf, words_of}
 use Rattle.xc_top.specs.declared.documents.Document.{Document}
 use Rattle.xc_top.specs.declared.status.Answer.{Answer}
@@ -39,6 +40,6 @@ pub record AreOfOneKind (one other : Answer) : Type 0 where
 abbrev pub AreOneIf : Type 0 → Answer → Answer → Type 0
 AreOneIf P one other = (one ≡ other) ⊎ (P × AreOfOneKind one other)
 
--- words and files have one answer, whatever the numbers that names get; only what stands behind the first line of a joint part may be another
+-- words and files have one answer, whatever the numbers that names get: whether there is a refusal, and which; the findings and the status; and the whole text, but where `check` judges: there only what stands behind the first line of the joint part may be another
 abbrev pub AnswersAreOne : Type 0
-AnswersAreOne = (words : List (List ℕ)) (files : Files) (one other : Answer) → IsAnswerOf words files one → IsAnswerOf words files other → AreOneIf (IsCheck (words_of words)) one other
+AnswersAreOne = (words : List (List ℕ)) (files : Files) (one other : Answer) → IsAnswerOf words files one → IsAnswerOf words files other → AreOneIf (IsCheck (words_of words) × IsJudged one.status) one other

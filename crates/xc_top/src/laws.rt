@@ -25,9 +25,9 @@ pub fn documents_are_one()
     tree_or_fault();
 }
 
-/// Words and files have one answer: one text, and one status. The numbers that expanded names get on the way, which the
-/// definitions leave free, change nothing of it. Where the joint part is asked, what stands behind its first line may be
-/// another: there is more than one certificate.
+/// Words and files have one answer: one refusal, or the same findings and one status. The numbers that expanded names get
+/// on the way, which the definitions leave free, change nothing of it. Where the joint part is asked and the bindings are
+/// judged, what stands behind its first line may be another: there is more than one certificate.
 pub fn answers_are_one()
     ensures { AnswersAreOne }
 {

@@ -42,8 +42,9 @@ pub fn run<S: Shelf, O: Sink>(alloc: Global, words: &[String], shelf: &mut S, ou
     ensures proven { IfSome (S.held shelf.old) (λ files. (verify : VerifyWords) → words_of (texts words.now) ≡ Some (VerifyOf verify) →
         result ≡ Status.Sound → IsProven verify files) }
 
-    // There is no other: words and files have one answer, whatever numbers names get on the way. Of a joint part the kind
-    // is one, and with it the status; another certificate may stand in it.
+    // There is no other: words and files tell whether there is a refusal and which, the findings and the status, whatever
+    // numbers names get on the way. The whole text is one but where `check` judges: there the first line of the joint part
+    // is, and another certificate, or other causes, may stand behind it.
     ensures one { AnswersAreOne }
 
     // What `check` wrote with a joint part that is feasible or infeasible, `verify` accepts over the same report and documents.

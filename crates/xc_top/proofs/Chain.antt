@@ -145,7 +145,7 @@ first_held files word words e = held_word word (files word) (first_unfetched fil
 later_fetched : (files : Files) (word : List ℕ) (words : List (List ℕ)) → first_unfetched files (word ∷ words) ≡ None → first_unfetched files words ≡ None
 later_fetched files word words e = later_none (unfetched files word) (first_unfetched files words) e
 
-same_bytes : (a b : List ℕ) (o : Option (List ℕ)) → o ≡ Some a → o ≡ Some b → a ≡ b
+pub same_bytes : (a b : List ℕ) (o : Option (List ℕ)) → o ≡ Some a → o ≡ Some b → a ≡ b
 same_bytes a b o e f = let same : Some a ≡ Some b = sym e ∙ f in cc
 
 module _ (command : CommandWords) (files : Files) (asked : Asked) (word : asked.word ≡ report_word command) (a : Answer) where

@@ -17,7 +17,7 @@ use Rattle.xc_report.specs.Wanted.{known_of}
 use Rattle.xc_report.specs.declared.reports.ReportFault.{ReportFault}
 use Rattle.xc_report.specs.declared.stated.StatedFact.{StatedFact}
 use Rattle.xc_report.specs.Renamed.{renamed_stated, renamed_fact, renamed_read}
-use Rattle.xc_top.proofs.Chain.{to_steps}
+use Rattle.xc_top.proofs.Chain.{same_bytes, to_steps}
 use Rattle.xc_top.proofs.Renaming.{IsRenamed, renamed_network}
 use Rattle.xc_top.proofs.RenamedLines.{Judges, one_counted}
 use Rattle.xc_top.proofs.RenamedSums.{one_sum}
@@ -67,9 +67,6 @@ some_none a o e n = let wrong : Some a ≡ None = sym e ∙ n in cc
 
 same_some : (a b : Answer) (o : Option Answer) → o ≡ Some a → o ≡ Some b → a ≡ b
 same_some a b o e f = let same : Some a ≡ Some b = sym e ∙ f in cc
-
-same_bytes : (a b : List ℕ) (o : Option (List ℕ)) → o ≡ Some a → o ≡ Some b → a ≡ b
-same_bytes a b o e f = let same : Some a ≡ Some b = sym e ∙ f in cc
 
 -- ---- answers
 

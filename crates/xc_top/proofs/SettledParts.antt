@@ -66,7 +66,7 @@ module _ (acceptance : AcceptanceProves) where
 -- ---- the claim of a joint part
 
 -- a certificate that makes the claim was settled on
-pub record IsCertified (joint : Joint) (word : List ℕ) : Type 0 where
+pub record IsClaimedBy (joint : Joint) (word : List ℕ) : Type 0 where
   pub certificate : Certificate
   pub settled : joint ≡ Settled certificate
   pub claims : claim certificate ≡ word
@@ -76,19 +76,19 @@ abbrev letter : List ℕ → ℕ
 letter part = get_or part 6 0
 
 module _ (facts : List Fact) (rest : List ℕ) where
-  feasible : (joint : Joint) → joint_lines facts joint ≡ codes "joint feasible\n" ++ rest → IsCertified joint (codes "feasible")
+  feasible : (joint : Joint) → joint_lines facts joint ≡ codes "joint feasible\n" ++ rest → IsClaimedBy joint (codes "feasible")
   feasible (Settled (Feasible values)) e = record { certificate = Feasible values; settled = refl; claims = refl }
   feasible (Settled (Infeasible r)) e = let wrong : 105 ≡ 102 = ap letter e in absurd (omega (arith, wrong))
   feasible (Caused parts) e = let wrong : 116 ≡ 102 = ap letter e in absurd (omega (arith, wrong))
 
-  infeasible : (joint : Joint) → joint_lines facts joint ≡ codes "joint infeasible\n" ++ rest → IsCertified joint (codes "infeasible")
+  infeasible : (joint : Joint) → joint_lines facts joint ≡ codes "joint infeasible\n" ++ rest → IsClaimedBy joint (codes "infeasible")
   infeasible (Settled (Feasible values)) e = let wrong : 102 ≡ 105 = ap letter e in absurd (omega (arith, wrong))
   infeasible (Settled (Infeasible r)) e = record { certificate = Infeasible r; settled = refl; claims = refl }
   infeasible (Caused parts) e = let wrong : 116 ≡ 105 = ap letter e in absurd (omega (arith, wrong))
 
-  certified : (joint : Joint) (word : List ℕ) → IsClaim word → joint_lines facts joint ≡ codes "joint " ++ word ++ codes "\n" ++ rest → IsCertified joint word
-  certified joint word (inl is) e = subst (λ w. IsCertified joint w) (sym is) (feasible joint (e ∙ ap (λ w. codes "joint " ++ w ++ codes "\n" ++ rest) is))
-  certified joint word (inr is) e = subst (λ w. IsCertified joint w) (sym is) (infeasible joint (e ∙ ap (λ w. codes "joint " ++ w ++ codes "\n" ++ rest) is))
+  certified : (joint : Joint) (word : List ℕ) → IsClaim word → joint_lines facts joint ≡ codes "joint " ++ word ++ codes "\n" ++ rest → IsClaimedBy joint word
+  certified joint word (inl is) e = subst (λ w. IsClaimedBy joint w) (sym is) (feasible joint (e ∙ ap (λ w. codes "joint " ++ w ++ codes "\n" ++ rest) is))
+  certified joint word (inr is) e = subst (λ w. IsClaimedBy joint w) (sym is) (infeasible joint (e ∙ ap (λ w. codes "joint " ++ w ++ codes "\n" ++ rest) is))
 
 begins_joint : (facts : List Fact) (joint : Joint) → BeginsJoint (joint_lines facts joint)
 begins_joint facts (Settled (Feasible values)) = refl
@@ -157,7 +157,7 @@ module _ (laws : Says) (mode : Mode) (networks : List Network) (facts : List Fac
   }
 
   -- where it makes a claim, a certificate of that was settled on
-  pub claimed : (word : List ℕ) → IsClaim word → Claims answer.text word → IsCertified h.joint word
+  pub claimed : (word : List ℕ) → IsClaim word → Claims answer.text word → IsClaimedBy h.joint word
   claimed word is_claim c = certified facts c.rest h.joint word is_claim (laws.part answer.text (joint_lines facts h.joint) c.part joint_part c.joint ∙ c.is)
 
   -- and where a certificate was settled on, it makes its claim, and the text is one of the certificate

@@ -20,7 +20,7 @@ use Rattle.xc_top.specs.Words.{SumWords, CheckWords, VerifyWords, CommandWords, 
 use Rattle.xc_top.specs.declared.documents.Document.{Document}
 use Rattle.xc_top.specs.declared.status.Answer.{Answer}
 
--- a document is no schema and no linkbase; or else a schema breaks a rule; or else a linkbase does
+-- a document is no XML document, or no schema and no linkbase; or else a schema breaks a rule; or else a linkbase does
 pub record AreRefused (check : CheckWords) (files : Files) (answer : Answer) : Type 0 where
   pub documents : List Document
   pub read : AreDocumentsOf files check.documents documents

@@ -13,6 +13,8 @@ mod Pieces
 mod RenamedFacts
 mod RenamedReports
 mod ReportFacts
+mod RuleDimensions
+mod RuleFacts
 mod SaidKeys
 mod SaidMeasures
 mod SameKeys

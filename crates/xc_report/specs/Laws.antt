@@ -1,5 +1,5 @@
 -- What follows from the definitions, in the words of reports.
-use Rattle.std.specs.Prelude.{◌≡◌, ◌↔◌, ℕ, List, true, Contains, map}
+use Rattle.std.specs.Prelude.{◌≡◌, ◌↔◌, ℕ, List, true, Contains, map, Ok, Err}
 use Rattle.xc_report.specs.Dimensions.{IsAscending, HaveSameValues, is_same_dimension, is_same_key, in_order, key_number}
 use Rattle.std.specs.List.{IsDistinct}
 use Rattle.std.specs.Map.{keys_of}
@@ -8,12 +8,15 @@ use Rattle.serde_json.specs.Data.{Members}
 use Rattle.xc_names.specs.declared.expanded.Expanded.{Expanded}
 use Rattle.xc_report.specs.Numbered.{IsKey, IsReport}
 use Rattle.xc_report.specs.Renamed.{renamed_stated, renamed_fact, renamed_read, IsKnownAs}
+use Rattle.xc_report.specs.Json.{member_list}
+use Rattle.xc_report.specs.Rules.{AllSay, FirstBreaks}
 use Rattle.xc_report.specs.StatedFacts.{stated_facts}
 use Rattle.xc_report.specs.Wanted.{Known}
 use Rattle.xc_report.specs.declared.dimensions.Dimension.{Dimension}
 use Rattle.xc_report.specs.declared.dimensions.DimValue.{DimValue}
 use Rattle.xc_report.specs.declared.dimensions.Key.{Key}
 use Rattle.xc_report.specs.declared.reports.Report.{Report}
+use Rattle.xc_report.specs.declared.reports.ReportFault.{ReportFault}
 use Rattle.xc_report.specs.declared.stated.StatedFact.{StatedFact}
 use Rattle.xc_report.specs.declared.stated.StatedPart.{StatedPart}
 
@@ -49,3 +52,11 @@ StatedIsRenamed = (f : ℕ → ℕ) (one other : Known) → IsKnownAs f one othe
 abbrev pub ReportIsRenamed : Type 0
 ReportIsRenamed = (f : ℕ → ℕ) (names others : List Expanded) (facts : List StatedFact) (report other : Report) → IsReport names facts report → IsReport others (map (renamed_stated f) facts) other
     → other.facts ≡ map (renamed_fact f) report.facts
+
+-- facts are answered exactly where each member is left out or readable, each with what it says
+abbrev pub FactsAreSaid : Type 0
+FactsAreSaid = (known : Known) (members : Members) (facts : List StatedFact) → (stated_facts known members ≡ Ok facts) ↔ AllSay known (member_list members) facts
+
+-- and a fault exactly where it is that of the first member that breaks a rule
+abbrev pub FaultsAreFirst : Type 0
+FaultsAreFirst = (known : Known) (members : Members) (f : ReportFault) → (stated_facts known members ≡ Err f) ↔ FirstBreaks known (member_list members) f

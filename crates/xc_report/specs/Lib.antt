@@ -12,6 +12,7 @@ pub mod Periods
 pub mod Prefixed
 pub mod Renamed
 pub mod Reports
+pub mod Rules
 pub mod Stated
 pub mod StatedFacts
 pub mod Steps

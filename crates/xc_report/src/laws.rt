@@ -1,7 +1,7 @@
 //! What the definitions of this crate say, in the words of reports.
 //!
 //! The functions do nothing: the contract of each is the law, and one may call a law below it.
-ghost use Rattle.xc_report.specs.Laws.{KeysTellValues, ComparisonTellsValues, OneNumberAKey, OrderKeepsValues, KeysAreOfNames, StatedIsRenamed, ReportIsRenamed};
+ghost use Rattle.xc_report.specs.Laws.{KeysTellValues, ComparisonTellsValues, OneNumberAKey, OrderKeepsValues, KeysAreOfNames, StatedIsRenamed, ReportIsRenamed, FactsAreSaid, FaultsAreFirst};
 
 use xc_names::laws::numbers_tell_names;
 
@@ -40,3 +40,10 @@ pub fn numbers_are_free()
 {
     keys_are_of_names();
 }
+
+/// Facts are answered exactly where each member of `facts` is left out or readable, each with what the rules say of it,
+/// and a fault exactly where it is that of the first member that breaks a rule.
+pub fn facts_are_said()
+    ensures facts { FactsAreSaid }
+    ensures faults { FaultsAreFirst }
+{}

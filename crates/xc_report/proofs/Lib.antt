@@ -2,12 +2,14 @@ mod DoubleLaws
 mod Examples
 pub mod Json
 mod Kept
+mod JsonOrder
 mod KeyLaws
 mod KeyOrder
 mod KeyPatterns
 mod KeyPlaces
 mod KeyValues
 mod KeysDecide
+mod KeysSaid
 mod Listed
 mod Pieces
 mod RenamedFacts

@@ -25,7 +25,7 @@ use Rattle.xc_report.proofs.SaidMeasures.{in_some, mapped, id_at, one_name, meas
 -- ---- dimensions
 
 -- the place of a kind of dimension among those that are listed
-abbrev name_kind : DimensionName → ℕ
+abbrev pub name_kind : DimensionName → ℕ
 name_kind named.Entity = 0
 name_kind named.Period = 1
 name_kind named.Unit = 2
@@ -34,11 +34,11 @@ name_kind named.NoteId = 4
 name_kind (named.Taxonomy name) = 5
 
 -- a dimension of a taxonomy has the number of its name
-taxonomy_is : (names : List Expanded) (name : Expanded) (by : Dimension) → dimension_in names (named.Taxonomy name) ≡ Some by → (id : NameId) × (id_of names name ≡ Some id) × (by ≡ numbered.Taxonomy id)
+pub taxonomy_is : (names : List Expanded) (name : Expanded) (by : Dimension) → dimension_in names (named.Taxonomy name) ≡ Some by → (id : NameId) × (id_of names name ≡ Some id) × (by ≡ numbered.Taxonomy id)
 taxonomy_is names name by h = mapped (λ id. numbered.Taxonomy id) (id_of names name) by h
 
 -- by any numbering a dimension is of the kind of its name
-same_kind : (names : List Expanded) (name : DimensionName) (by : Dimension) → dimension_in names name ≡ Some by → kind by ≡ name_kind name
+pub same_kind : (names : List Expanded) (name : DimensionName) (by : Dimension) → dimension_in names name ≡ Some by → kind by ≡ name_kind name
 same_kind names named.Entity by h = ap kind (sym (in_some _ _ h))
 same_kind names named.Period by h = ap kind (sym (in_some _ _ h))
 same_kind names named.Unit by h = ap kind (sym (in_some _ _ h))

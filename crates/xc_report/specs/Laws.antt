@@ -1,17 +1,19 @@
 -- What follows from the definitions, in the words of reports.
-use Rattle.std.specs.Prelude.{◌≡◌, ◌↔◌, ℕ, List, true, Contains, map, Ok, Err}
+use Rattle.std.specs.Prelude.{◌≡◌, ◌↔◌, ℕ, List, true, Contains, All, map, Ok, Err}
 use Rattle.xc_report.specs.Dimensions.{IsAscending, HaveSameValues, is_same_dimension, is_same_key, in_order, key_number}
 use Rattle.std.specs.List.{IsDistinct}
 use Rattle.std.specs.Map.{keys_of}
 use Rattle.xc_report.specs.contracts.dimensions.KeyPartialEq.TheImpl as comparison
 use Rattle.serde_json.specs.Data.{Members}
 use Rattle.xc_names.specs.declared.expanded.Expanded.{Expanded}
+use Rattle.xc_names.specs.declared.wanted.Wanted.{Wanted}
 use Rattle.xc_report.specs.Numbered.{IsKey, IsReport}
+use Rattle.xc_report.specs.Opened.{Opened, opened}
 use Rattle.xc_report.specs.Renamed.{renamed_stated, renamed_fact, renamed_read, IsKnownAs}
 use Rattle.xc_report.specs.Json.{member_list}
 use Rattle.xc_report.specs.Rules.{AllSay, FirstBreaks}
 use Rattle.xc_report.specs.StatedFacts.{stated_facts}
-use Rattle.xc_report.specs.Wanted.{Known}
+use Rattle.xc_report.specs.Wanted.{Known, known_of}
 use Rattle.xc_report.specs.declared.dimensions.Dimension.{Dimension}
 use Rattle.xc_report.specs.declared.dimensions.DimValue.{DimValue}
 use Rattle.xc_report.specs.declared.dimensions.Key.{Key}
@@ -60,3 +62,8 @@ FactsAreSaid = (known : Known) (members : Members) (facts : List StatedFact) →
 -- and a fault exactly where it is that of the first member that breaks a rule
 abbrev pub FaultsAreFirst : Type 0
 FaultsAreFirst = (known : Known) (members : Members) (f : ReportFault) → (stated_facts known members ≡ Err f) ↔ FirstBreaks known (member_list members) f
+
+-- the key of a fact that was read has each dimension that the fact states, with the value that it states
+abbrev pub KeysSayWhatIsStated : Type 0
+KeysSayWhatIsStated = (bytes : List ℕ) (report : Opened) → opened bytes ≡ Ok report → (names : List Expanded) (wanted : Wanted) (facts : List StatedFact)
+    → stated_facts (known_of report.prefixes names wanted) report.facts ≡ Ok facts → All (λ fact. (all : List Expanded) (key : Key) (is : IsKey all fact.parts key) → HaveSameValues key is.numbers) facts

@@ -93,7 +93,7 @@ abbrev pub has_twice : List StatedPart → Bool
 has_twice [] = false
 has_twice (p ∷ ps) = list_any (λ q. is_same_name p.dimension q.dimension) ps || has_twice ps
 
--- a member of `dimensions` is none that a fact may have
+-- each member of `dimensions` is one that a fact may have
 abbrev pub are_parts : Known → Members → Bool
 are_parts known members = list_all (λ m. is_some (part_of known m)) (member_list members)
 

@@ -1,7 +1,7 @@
 //! What the definitions of this crate say, in the words of reports.
 //!
 //! The functions do nothing: the contract of each is the law, and one may call a law below it.
-ghost use Rattle.xc_report.specs.Laws.{KeysTellValues, ComparisonTellsValues, OneNumberAKey, OrderKeepsValues, KeysAreOfNames, StatedIsRenamed, ReportIsRenamed, FactsAreSaid, FaultsAreFirst};
+ghost use Rattle.xc_report.specs.Laws.{KeysTellValues, ComparisonTellsValues, OneNumberAKey, OrderKeepsValues, KeysAreOfNames, StatedIsRenamed, ReportIsRenamed, FactsAreSaid, FaultsAreFirst, KeysSayWhatIsStated};
 
 use xc_names::laws::numbers_tell_names;
 
@@ -47,3 +47,10 @@ pub fn facts_are_said()
     ensures facts { FactsAreSaid }
     ensures faults { FaultsAreFirst }
 {}
+
+/// The key of a fact that was read has each dimension that the fact states, with the value that it states.
+pub fn keys_say_what_is_stated()
+    ensures { KeysSayWhatIsStated }
+{
+    numbers_tell_names();
+}

@@ -3,6 +3,7 @@ pub mod Flat
 pub mod Gathered
 pub mod Inside
 pub mod Least
+pub mod KnownKinds
 pub mod LinkLists
 pub mod Numbering
 pub mod NumbersByIds

@@ -33,7 +33,8 @@ parted (x ∷ xs) (y ∷ ys) last final e =
     let rest = parted xs ys last final tail in
     ((λ i. head i ∷ rest.0 i), rest.1)
 
-by_one_chain : (types : List NamedType) (first : Expanded) (kind other : Kind) → IsKindBy types first kind → IsKindBy types first other → kind ≡ other
+-- the kinds by a chain are one
+pub by_one_chain : (types : List NamedType) (first : Expanded) (kind other : Kind) → IsKindBy types first kind → IsKindBy types first other → kind ≡ other
 by_one_chain types first kind other k l =
     let tails = one_chain types [] first k.begins.0 l.begins.0 (subst (λ xs. IsChain types [] xs) k.begins.1 k.chain) (subst (λ xs. IsChain types [] xs) l.begins.1 l.chain) in
     let parts = parted k.earlier l.earlier k.last l.last (k.begins.1 ∙ ap (λ xs. first ∷ xs) tails ∙ sym l.begins.1) in

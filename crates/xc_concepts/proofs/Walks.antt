@@ -20,7 +20,7 @@ use Rattle.xc_names.specs.declared.expanded.Expanded.{Expanded}
 
 -- ---- names that are the same
 
-same_is : (a b : Expanded) → is_same_name a b ≡ true → a ≡ b
+pub same_is : (a b : Expanded) → is_same_name a b ≡ true → a ≡ b
 same_is a b e =
     let h = and_parts (bytes_eq a.space b.space) (bytes_eq a.local b.local) e in
     λ i. record { space = (bytes_eq-Decides a.space b.space).0 h.0 i; local = (bytes_eq-Decides a.local b.local).0 h.1 i }
@@ -236,10 +236,10 @@ module _ (types : List NamedType) where
       }
 
   -- a walk of more steps than there are types says nothing
-  pub kind_of_circle : (n : ℕ) (first name next : Expanded) → Reaches n first name → base_name types name ≡ Some next → length types ≤ n → IsKindBy types first Unknown
+  kind_of_long : (n : ℕ) (first : Expanded) → GoesOn n first → length types < n → IsKindBy types first Unknown
   unfolding Typed IsDistinct
-  kind_of_circle n first name next r step long =
-      let back = leads_back (n + 1) first [] (goes_from n 1 first name r (next, step, tt)) tt tt (omega (arith, long)) in
+  kind_of_long n first g long =
+      let back = leads_back n first [] g tt tt (omega (arith, long)) in
       let e = back.1 in
       record {
         earlier = e.front;
@@ -248,3 +248,22 @@ module _ (types : List NamedType) where
         chain = e.chain;
         decides = sym (has_stood e.front back.0 back.2 (or_nothing _ _ e.stands));
       }
+
+  -- nor does one that goes on after as many
+  pub kind_of_circle : (n : ℕ) (first name next : Expanded) → Reaches n first name → base_name types name ≡ Some next → length types ≤ n → IsKindBy types first Unknown
+  kind_of_circle n first name next r step long = kind_of_long (n + 1) first (goes_from n 1 first name r (next, step, tt)) (omega (arith, long))
+
+  shorter : (n m : ℕ) (name : Expanded) → m ≤ n → GoesOn n name → GoesOn m name
+  shorter n zero name h g = tt
+  shorter zero (suc m) name h g = absurd (omega (arith, h))
+  shorter (suc n) (suc m) name h g = (g.0, g.1, shorter n m g.0 (omega (arith, h)) g.2)
+
+  -- a walk that comes to a name again goes on for ever
+  round : (m n : ℕ) (name : Expanded) → Reaches (suc m) name name → GoesOn n name
+  round m zero name r = tt
+  round m (suc n) name r = shorter (suc m + n) (suc n) name (omega arith) (goes_from (suc m) n name name r (round m n name r))
+
+  -- so it says nothing
+  pub kind_of_round : (n m : ℕ) (first name : Expanded) → Reaches n first name → Reaches (suc m) name name → IsKindBy types first Unknown
+  kind_of_round n m first name r back =
+      kind_of_long (n + suc (length types)) first (goes_from n (suc (length types)) first name r (round m (suc (length types)) name back)) (omega arith)

@@ -1,5 +1,5 @@
 -- Kinds as they compute, step by step.
-use Rattle.std.proofs.Common.{◌≡◌, ◌≢◌, ◌-◌, ◌+◌, ℕ, zero, suc, List, [], Option, Some, None, length, refl, sym, ap, subst, ◌∙◌, arith}
+use Rattle.std.proofs.Common.{◌≡◌, ◌≢◌, ◌-◌, ◌+◌, ◌≤◌, ℕ, zero, suc, List, [], Option, Some, None, length, refl, sym, ap, subst, ◌∙◌, arith}
 use Rattle.std.specs.Option.{option_map_or}
 use Rattle.xc_concepts.proofs.Walks.{Reaches, kind_of_end, kind_of_circle}
 use Rattle.xc_concepts.specs.Chains.{IsKindBy, base_name, kind_by_last, kind_within}
@@ -25,7 +25,7 @@ module _ (types : List NamedType) where
   within_none n name next none e = ap (λ m. kind_within types m name) none ∙ ap (λ o. option_map_or (λ next. Unknown) o (kind_by_last types [] name)) e
 
   -- what computes is the kind by the chain
-  pub computes : (left n : ℕ) (first name : Expanded) → Reaches types n first name → n + left ≡ length types → IsKindBy types first (kind_within types left name)
+  pub computes : (left n : ℕ) (first name : Expanded) → Reaches types n first name → length types ≤ n + left → IsKindBy types first (kind_within types left name)
   computes zero n first name r long = by (base_name types name) refl
     where
       by : (o : Option Expanded) → base_name types name ≡ o → IsKindBy types first (kind_within types zero name)
@@ -33,7 +33,7 @@ module _ (types : List NamedType) where
       by (Some next) e = subst (IsKindBy types first) (sym (within_none zero name next refl e)) (kind_of_circle types n first name next r e (omega (arith, long)))
   computes (suc left) n first name r long = by (base_name types name) refl (computes left (suc n) first)
     where
-      by : (o : Option Expanded) → base_name types name ≡ o → ((next : Expanded) → Reaches types (suc n) first next → suc n + left ≡ length types → IsKindBy types first (kind_within types left next)) → IsKindBy types first (kind_within types (suc left) name)
+      by : (o : Option Expanded) → base_name types name ≡ o → ((next : Expanded) → Reaches types (suc n) first next → length types ≤ suc n + left → IsKindBy types first (kind_within types left next)) → IsKindBy types first (kind_within types (suc left) name)
       by None e rest = subst (IsKindBy types first) (sym (within_last (suc left) name e)) (kind_of_end types n first name (kind_by_last types [] name) r e refl)
       by (Some next) e rest =
           subst (IsKindBy types first) (sym (ap (λ o. option_map_or (kind_within types left) o (kind_by_last types [] name)) e)) (rest next (name, r, e) (omega (arith, long)))

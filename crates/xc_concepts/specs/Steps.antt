@@ -15,6 +15,7 @@ use Rattle.xc_concepts.specs.declared.schema.Schema.{Schema}
 use Rattle.xc_elements.specs.declared.nodes.Node.{Node}
 use Rattle.xc_names.specs.Names.{is_named}
 pub mod Ids
+pub mod Kinds
 pub mod Links
 
 -- ---- lent texts

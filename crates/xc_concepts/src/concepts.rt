@@ -7,7 +7,8 @@ ghost use Rattle.xc_names.specs.Names.{KeepsNumbers};
 
 use crate::fault::SchemaFault;
 use crate::ids::{Files, note_file, number_at, numbers_by_id};
-use crate::kind::{Kind, kind_by};
+use crate::kind::Kind;
+use crate::kinds::{Kinds, kind_by, kinds_of};
 use crate::links::{Links, TypeName, concept_links, put_all, type_links};
 use crate::reading::read_schema;
 use crate::rules::first_broken;
@@ -25,13 +26,14 @@ use xc_names::{NameId, Names};
 ///
 /// Maps go with the schemas: from files and ids to the numbers of concepts, from these numbers to the
 /// names of their types, and from types to their bases. So neither an id nor a kind is searched among
-/// all concepts or types.
+/// all concepts or types. The kinds of types are kept where `note_kinds` has worked them out.
 #[derive(Drop)]
 pub struct Concepts {
     schemas: Vec<Schema>,
     ids: Files,
     first_types: Links<u64>,
     bases: Links<TypeName>,
+    kinds: Kinds,
     alloc: Global,
 }
 
@@ -40,6 +42,7 @@ impl Model for Concepts {
     ghost use Rattle.xc_concepts.specs.declared.schema.Schema.{Schema};
     ghost use Rattle.xc_concepts.specs.Declarations.{concepts_in, types_in};
     ghost use Rattle.xc_concepts.specs.Steps.Ids.{AreNumbersOf};
+    ghost use Rattle.xc_concepts.specs.Steps.Kinds.{AreKinds};
     ghost use Rattle.xc_concepts.specs.Steps.Links.{AreFirstTypes, AreBases};
 
     ghost Value = { List Schema };
@@ -48,7 +51,8 @@ impl Model for Concepts {
 
     ghost invariant = { λ c. AreNumbersOf c.schemas.items c.ids
         × AreFirstTypes (concepts_in c.schemas.items) c.first_types
-        × AreBases (types_in c.schemas.items) c.bases };
+        × AreBases (types_in c.schemas.items) c.bases
+        × AreKinds (types_in c.schemas.items) c.kinds };
 }
 
 impl Concepts {
@@ -61,6 +65,7 @@ impl Concepts {
             ids: BTreeMap::new(alloc),
             first_types: IndexMap::new(alloc),
             bases: IndexMap::new(alloc),
+            kinds: IndexMap::new(alloc),
             alloc,
         }
     }
@@ -119,7 +124,17 @@ impl Concepts {
         note_file(&mut self.ids, self.alloc, schema.file.as_str(), numbers)?;
         put_all(&mut self.first_types, first_types);
         put_all(&mut self.bases, bases);
+        self.kinds.clear();
         self.schemas.push_reserved(schema);
+        Ok(())
+    }
+
+    /// Works the kinds of all types out, once for each, so that `kind` looks them up and follows no
+    /// chain. It tells nothing else; a schema that is added later lets go of what was worked out.
+    pub fn note_kinds(&mut self) -> Result<(), Memory>
+        ensures { self.new ≡ self.old }
+    {
+        self.kinds = kinds_of(self.alloc, self.schemas.as_slice(), &self.bases)?;
         Ok(())
     }
 
@@ -142,7 +157,9 @@ impl Concepts {
         ensures computed { result ≡ kind_of self.now concept.0 }
     {
         match self.first_types.get(&concept.0) {
-            Some(Some(first)) => kind_by(self.schemas.as_slice(), &self.bases, first),
+            Some(Some(first)) => {
+                kind_by(self.schemas.as_slice(), &self.bases, &self.kinds, first)
+            },
             Some(None) => Kind::Other,
             None => Kind::Unknown,
         }

@@ -1,6 +1,6 @@
-// The kinds of concepts, by chains of type names.
+// The kinds of concepts, and the steps of chains of type names.
 ghost use Rattle.std.specs.Prelude.{◌≡◌, [], List, option_map, length};
-ghost use Rattle.xc_concepts.specs.Chains.{is_decimal, is_item_type, base_name, kind_by_last, IsKindBy, kind_from};
+ghost use Rattle.xc_concepts.specs.Chains.{is_decimal, is_item_type, base_name, kind_by_last};
 ghost use Rattle.xc_concepts.specs.Declarations.{types_in};
 ghost use Rattle.xc_concepts.specs.Steps.Links.{as_name, AreBases};
 ghost use Rattle.xc_concepts.specs.declared.schema.NamedType.{NamedType};
@@ -22,28 +22,8 @@ pub enum Kind {
     Unknown,
 }
 
-/// The kind by the chain of type names that begins with this one.
-///
-/// A chain that has more names than there are types has one of them twice, so it leads back to itself.
-pub(crate) fn kind_by(schemas: &[Schema], bases: &Links<TypeName>, first: &TypeName) -> Kind
-    requires { AreBases (types_in schemas.now) bases.now }
-    ensures chain { IsKindBy (types_in schemas.now) (as_name first.now) result }
-    ensures computed { result ≡ kind_from (types_in schemas.now) (as_name first.now) }
-{
-    let mut name = first;
-    let mut left = count_types(schemas);
-    while let Some(base) = base_name(bases, name) {
-        if left == 0 {
-            return Kind::Unknown;
-        }
-        left -= 1;
-        name = base;
-    }
-    kind_of_last(bases, name)
-}
-
-// How many types the schemas have.
-fn count_types(schemas: &[Schema]) -> u128
+/// How many types the schemas have.
+pub(crate) fn count_types(schemas: &[Schema]) -> u128
     ensures { result ≡ length (types_in schemas.now) }
 {
     let mut count: u128 = 0;
@@ -53,8 +33,8 @@ fn count_types(schemas: &[Schema]) -> u128
     count
 }
 
-// The name of the base of the type with this name.
-fn base_name<'a>(bases: &'a Links<TypeName>, name: &TypeName) -> Option<&'a TypeName>
+/// The name of the base of the type with this name.
+pub(crate) fn base_name<'a>(bases: &'a Links<TypeName>, name: &TypeName) -> Option<&'a TypeName>
     ensures { (types : List NamedType) → AreBases types bases.now → option_map (λ n. as_name n.now) result ≡ base_name types (as_name name.now) }
 {
     if is_item_type(name) {
@@ -66,8 +46,8 @@ fn base_name<'a>(bases: &'a Links<TypeName>, name: &TypeName) -> Option<&'a Type
     }
 }
 
-// The kind by the last name of a chain that does not lead back to itself.
-fn kind_of_last(bases: &Links<TypeName>, name: &TypeName) -> Kind
+/// The kind by the last name of a chain that does not lead back to itself.
+pub(crate) fn kind_of_last(bases: &Links<TypeName>, name: &TypeName) -> Kind
     ensures { (types : List NamedType) → AreBases types bases.now → result ≡ kind_by_last types [] (as_name name.now) }
 {
     if is_item_type(name) {

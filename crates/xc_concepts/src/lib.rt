@@ -7,6 +7,7 @@ mod elements;
 mod fault;
 mod ids;
 mod kind;
+mod kinds;
 pub mod laws;
 mod links;
 mod reading;

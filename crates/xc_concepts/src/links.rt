@@ -112,3 +112,13 @@ fn type_name(name: &Expanded) -> Result<TypeName, Memory>
         local: name.local.copy()?,
     })
 }
+
+/// A name that is the same.
+pub(crate) fn copied_key(name: &TypeName) -> Result<TypeName, Memory>
+    ensures { IfOk result (λ copy. copy ≡ name.now) }
+{
+    Ok(TypeName {
+        space: name.space.copy()?,
+        local: name.local.copy()?,
+    })
+}

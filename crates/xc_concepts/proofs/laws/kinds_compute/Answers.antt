@@ -1,4 +1,4 @@
-use Rattle.std.proofs.Common.{◌≡◌, List, Option, Some, None, MatchOption, refl, length, zero-add}
+use Rattle.std.proofs.Common.{◌≡◌, List, Option, Some, None, MatchOption, refl, length, arith}
 use Rattle.std.specs.Option.{option_map_or}
 use Rattle.xc_concepts.proofs.Within.{computes}
 use Rattle.xc_concepts.specs.Chains.{IsKindBy, kind_from, concept_numbered}
@@ -11,7 +11,7 @@ use Rattle.xc_concepts.proofs.laws.kinds_compute.Goals as goal
 
 by_type : (types : List NamedType) (o : Option Expanded) → MatchOption o (option_map_or (kind_from types) o Other ≡ Other) (λ first. IsKindBy types first (option_map_or (kind_from types) o Other))
 by_type types None = refl
-by_type types (Some first) = computes types (length types) 0 first first refl (zero-add (length types))
+by_type types (Some first) = computes types (length types) 0 first first refl (omega arith)
 
 by_concept : (types : List NamedType) (o : Option Concept) → let kind = option_map_or (λ c. option_map_or (kind_from types) c.declared.first_type Other) o Unknown in
     MatchOption o (kind ≡ Unknown) (λ c. MatchOption c.declared.first_type (kind ≡ Other) (λ first. IsKindBy types first kind))

@@ -3,6 +3,7 @@ use Rattle.indexmap.specs.IndexMap.{get}
 use Rattle.std.specs.BTreeMap.{get_by_text}
 use Rattle.std.specs.Option.{option_or}
 use Rattle.std.specs.Str.{bytes_eq}
+use Rattle.xc_concepts.proofs.KnownKinds.{none_known}
 use Rattle.xc_concepts.proofs.LinkLists.{found_after, get_same}
 use Rattle.xc_concepts.proofs.NumbersByIds.{numbers_after}
 use Rattle.xc_concepts.specs.Chains.{has_number}
@@ -41,4 +42,5 @@ invariant_of-self-2 c =
           (c.self.invariant.2 name)
           (c.in_ok-bases.ensures name ∙ ap (λ ts. base_of ts (as_name name)) c.as_slice-2.ensures)
           ∙ ap (λ s. base_of (types_in s) (as_name name)) whole,
+      none_known _ c.clear.new.self c.clear.ensures.empty,
     )

@@ -15,6 +15,7 @@ use xc_calc::{ArcKind, Arcs, Network, is_linkbase};
 use xc_chars::file_name;
 use xc_concepts::{Concepts, is_schema};
 use xc_elements::Tree;
+use xc_lists::Memory;
 use xc_names::{Names, Wanted};
 
 /// What a taxonomy says.
@@ -133,6 +134,15 @@ fn linkbase_in(document: &Document) -> Option<&Tree>
     }
 }
 
+// The same concepts, with the kinds of their types worked out, so that no arc follows a chain of types.
+fn with_kinds(concepts: Concepts) -> Result<Concepts, Memory>
+    ensures { IfOk result (λ noted. noted ≡ concepts) }
+{
+    let mut noted = concepts;
+    noted.note_kinds()?;
+    Ok(noted)
+}
+
 /// What these documents say together, or the first that is refused: each has to be a schema or a linkbase; then the
 /// schemas are added in their order, and then the linkbases.
 pub fn taxonomy_of(alloc: Global, kind: ArcKind, documents: &[Document]) -> Result<Taxonomy, Stop>
@@ -142,7 +152,7 @@ pub fn taxonomy_of(alloc: Global, kind: ArcKind, documents: &[Document]) -> Resu
 {
     require_taxonomies(alloc, documents)?;
     let mut names = Names::new(alloc);
-    let concepts = add_schemas(alloc, &mut names, documents)?;
+    let concepts = with_kinds(add_schemas(alloc, &mut names, documents)?)?;
     let arcs = add_linkbases(alloc, kind, &concepts, documents)?;
     let networks = arcs.effective()?;
     let wanted = arcs.wanted(&concepts)?;

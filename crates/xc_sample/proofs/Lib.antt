@@ -1,0 +1,4 @@
+pub mod Examples
+pub mod Lengths
+pub mod Lists
+pub mod NodeValues

@@ -1,0 +1,9 @@
+use Rattle.std.proofs.Common.{◌≡◌, ◌++◌, ◌-◌}
+use Rattle.std.specs.Prelude.{codes, string_bytes}
+use Rattle.std.specs.List.{flat_map, range_with_len}
+use Rattle.xc_sample.specs.Samples.{fact}
+use Rattle.xc_sample.proofs.facts.push_further_facts.Given as goal
+
+-- the lines of the nodes so far
+abbrev pub invariant-loop-node : goal.invariant-loop-node
+invariant-loop-node l = string_bytes l.out ≡ string_bytes l.initial.out ++ flat_map (λ i. codes "," ++ fact l.count i) (range_with_len 1 (l.node - 1))

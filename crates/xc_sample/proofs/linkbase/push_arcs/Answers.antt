@@ -1,0 +1,7 @@
+use Rattle.std.proofs.Common.{arith}
+use Rattle.xc_sample.proofs.Lists.{text_more}
+use Rattle.xc_sample.specs.Samples.{arc_lines}
+use Rattle.xc_sample.proofs.linkbase.push_arcs.Goals as goal
+
+pub loop-node-preserved : goal.loop-node-preserved
+loop-node-preserved c = text_more (λ i. arc_lines c.args.count i) _ _ _ 0 c.loop-node.node c.loop-node.node (omega arith) c.loop-node.invariant c.in_ok-push_arcs_from.ensures

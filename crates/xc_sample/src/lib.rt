@@ -12,4 +12,4 @@ mod texts;
 pub mod types;
 mod values;
 
-pub use texts::sample;
+pub use texts::{root_value, sample};

@@ -5,7 +5,7 @@ use Rattle.std.specs.List.{range_with_len}
 use Rattle.std.specs.Option.{option_or}
 use Rattle.xc_lists.specs.Places.{first_given, first_place, place_where}
 use Rattle.xc_concepts.specs.Rules.{broken_at, is_nameless, repeats_id, repeats_concept}
-use Rattle.xc_concepts.specs.Steps.{Broken, nameless_fault, id_fault, concept_fault, earlier}
+use Rattle.xc_concepts.specs.Steps.{Broken, nameless_fault, id_fault, concept_fault, earlier_fault}
 use Rattle.xc_concepts.specs.declared.fault.SchemaFault.TheVariants.{BadPrefix, SameId, SameConcept}
 use Rattle.xc_concepts.specs.declared.schema.Schema.{Schema}
 use Rattle.xc_elements.specs.declared.nodes.Node.{Node}
@@ -30,22 +30,22 @@ below : (m n : ℕ) → m < n → nat_lt m n ≡ true
 below m n h = grind (arith, nat_tests)
 
 -- one that does not stand later goes first
-first_stays : (x : Broken) (o : Option Broken) → ((y : Broken) → o ≡ Some y → x.0 ≤ y.0) → earlier (Some x) o ≡ Some x
+first_stays : (x : Broken) (o : Option Broken) → ((y : Broken) → o ≡ Some y → x.0 ≤ y.0) → earlier_fault (Some x) o ≡ Some x
 first_stays x None h = refl
 first_stays x (Some y) h = ap (λ b. if b then Some y else Some x) (not_below y.0 x.0 (h y refl))
 
 -- one that stands earlier goes first
-second_first : (o : Option Broken) (y : Broken) → ((x : Broken) → o ≡ Some x → y.0 < x.0) → earlier o (Some y) ≡ Some y
+second_first : (o : Option Broken) (y : Broken) → ((x : Broken) → o ≡ Some x → y.0 < x.0) → earlier_fault o (Some y) ≡ Some y
 second_first None y h = refl
 second_first (Some x) y h = ap (λ b. if b then Some y else Some x) (below y.0 x.0 (h x refl))
 
-pub first_of_two : (f g : ℕ → Option Broken) → Own f → Own g → (a n : ℕ) → first_given (λ k. option_or (f k) (g k)) (range_with_len a n) ≡ earlier (first_given f (range_with_len a n)) (first_given g (range_with_len a n))
+pub first_of_two : (f g : ℕ → Option Broken) → Own f → Own g → (a n : ℕ) → first_given (λ k. option_or (f k) (g k)) (range_with_len a n) ≡ earlier_fault (first_given f (range_with_len a n)) (first_given g (range_with_len a n))
 first_of_two f g own_f own_g a zero = refl
 first_of_two f g own_f own_g a (suc n) = by (f a) (g a) refl refl (first_of_two f g own_f own_g (a + 1) n)
   where
     by : (o p : Option Broken) → f a ≡ o → g a ≡ p
-        → first_given (λ k. option_or (f k) (g k)) (range_with_len (a + 1) n) ≡ earlier (first_given f (range_with_len (a + 1) n)) (first_given g (range_with_len (a + 1) n))
-        → option_or (option_or o p) (first_given (λ k. option_or (f k) (g k)) (range_with_len (a + 1) n)) ≡ earlier (option_or o (first_given f (range_with_len (a + 1) n))) (option_or p (first_given g (range_with_len (a + 1) n)))
+        → first_given (λ k. option_or (f k) (g k)) (range_with_len (a + 1) n) ≡ earlier_fault (first_given f (range_with_len (a + 1) n)) (first_given g (range_with_len (a + 1) n))
+        → option_or (option_or o p) (first_given (λ k. option_or (f k) (g k)) (range_with_len (a + 1) n)) ≡ earlier_fault (option_or o (first_given f (range_with_len (a + 1) n))) (option_or p (first_given g (range_with_len (a + 1) n)))
     by None None d e rest = rest
     by None (Some y) d e rest = sym (second_first _ y (λ x h. omega (arith, own_g a y e, no_earlier f own_f (a + 1) n x h)))
     by (Some x) None d e rest = sym (first_stays x _ (λ y h. omega (arith, own_f a x d, no_earlier g own_g (a + 1) n y h)))
@@ -86,7 +86,7 @@ by_rules false false false k = refl
 
 pub first_broken_by_rules : (schemas : List Schema) (nodes : List Node) (n : ℕ) →
     let ks = range_with_len 0 n in
-    option_map (λ x. x.1) (earlier (earlier (option_map nameless_fault (first_place (is_nameless nodes) ks)) (option_map id_fault (first_place (repeats_id nodes) ks))) (option_map concept_fault (first_place (repeats_concept schemas nodes) ks)))
+    option_map (λ x. x.1) (earlier_fault (earlier_fault (option_map nameless_fault (first_place (is_nameless nodes) ks)) (option_map id_fault (first_place (repeats_id nodes) ks))) (option_map concept_fault (first_place (repeats_concept schemas nodes) ks)))
     ≡ first_given (broken_at schemas nodes) ks
 first_broken_by_rules schemas nodes n =
     let ks = range_with_len 0 n in
@@ -97,8 +97,8 @@ first_broken_by_rules schemas nodes n =
     let own_g : Own g = own_ruled id_fault (λ k. refl) (repeats_id nodes) in
     let own_h : Own h = own_ruled concept_fault (λ k. refl) (repeats_concept schemas nodes) in
     ap (option_map (λ x. x.1))
-    ((λ i. earlier (earlier (sym (given_map nameless_fault (place_where (is_nameless nodes)) ks) i) (sym (given_map id_fault (place_where (repeats_id nodes)) ks) i)) (sym (given_map concept_fault (place_where (repeats_concept schemas nodes)) ks) i))
-    ∙ ap (λ o. earlier o (first_given h ks)) (sym (first_of_two f g own_f own_g 0 n))
+    ((λ i. earlier_fault (earlier_fault (sym (given_map nameless_fault (place_where (is_nameless nodes)) ks) i) (sym (given_map id_fault (place_where (repeats_id nodes)) ks) i)) (sym (given_map concept_fault (place_where (repeats_concept schemas nodes)) ks) i))
+    ∙ ap (λ o. earlier_fault o (first_given h ks)) (sym (first_of_two f g own_f own_g 0 n))
     ∙ sym (first_of_two (λ k. option_or (f k) (g k)) h (own_either f g own_f own_g) own_h 0 n))
     ∙ sym (given_map (λ x. x.1) (λ k. option_or (option_or (f k) (g k)) (h k)) ks)
     ∙ ap (λ given. first_given given ks) (λ i k. by_rules (is_nameless nodes k) (repeats_id nodes k) (repeats_concept schemas nodes k) k i)

@@ -5,11 +5,11 @@ use Rattle.std.proofs.lemmas.Bool.Decides.{Decides-eqb}
 use Rattle.std.proofs.lemmas.Option.{slice_get-get_or}
 use Rattle.std.proofs.lemmas.Bool.{eqb-true}
 use Rattle.xc_lists.specs.Places.{is_place}
-use Rattle.xc_concepts.specs.References.{Reference, make_reference, base_at}
-use Rattle.xc_concepts.specs.Steps.{owner_of}
-use Rattle.xc_concepts.specs.Schemas.{is_schema_element, text_at, around, restricted_type, restricted_element}
-use Rattle.xc_concepts.specs.declared.references.Owner.{Owner}
-use Rattle.xc_concepts.specs.declared.references.Owner.TheVariants.{OfType, OfElement}
+use Rattle.xc_concepts.specs.References.{Reference, make_reference, base_of_restriction}
+use Rattle.xc_concepts.specs.Steps.{restricted_node}
+use Rattle.xc_concepts.specs.Schemas.{is_schema_element, text_at, element_around, restricted_type, restricted_element}
+use Rattle.xc_concepts.specs.declared.references.Restricted.{Restricted}
+use Rattle.xc_concepts.specs.declared.references.Restricted.TheVariants.{AsType, AsElement}
 use Rattle.xc_elements.specs.Trees.{IsTree, upward, ancestors, parent_of, end_of}
 use Rattle.xc_elements.specs.declared.nodes.Node.{Node}
 
@@ -30,7 +30,7 @@ parent_before nodes tree (suc k) p h e =
     subst (λ q. q < suc k) same parent.2
 
 -- what is around a node is its parent
-around_parent : (nodes : List Node) (local : List ℕ) (k p : ℕ) → around nodes local k ≡ Some p → parent_of nodes k ≡ Some p
+around_parent : (nodes : List Node) (local : List ℕ) (k p : ℕ) → element_around nodes local k ≡ Some p → parent_of nodes k ≡ Some p
 around_parent nodes local k p e = elim (is_schema_element nodes local k) as (λ b. (if b then parent_of nodes k else None) ≡ Some p → parent_of nodes k ≡ Some p) [ true ↦ λ h. h | false ↦ λ h. absurd (cc) ] e
 
 -- what is above a node by two parents, or by three
@@ -69,28 +69,28 @@ inside_element nodes tree k e within is =
     above_three nodes (length nodes) k content.0 complex.0 e (omega arith) p q r
 
 -- a restriction stands inside the element whose content it restricts
-pub owned_inside : (nodes : List Node) → IsTree nodes → (owner : Owner) (k e end : ℕ) → k < length nodes → owner_of nodes owner k ≡ Some e → end_of nodes e ≡ Some end → (e < k) × (k < end)
-owned_inside nodes tree OfType k e end within is at = (tree.descendants e k within end at).0 (inside_type nodes tree k e within is)
-owned_inside nodes tree OfElement k e end within is at = (tree.descendants e k within end at).0 (inside_element nodes tree k e within is)
+pub owned_inside : (nodes : List Node) → IsTree nodes → (restricted : Restricted) (k e end : ℕ) → k < length nodes → restricted_node nodes restricted k ≡ Some e → end_of nodes e ≡ Some end → (e < k) × (k < end)
+owned_inside nodes tree AsType k e end within is at = (tree.descendants e k within end at).0 (inside_type nodes tree k e within is)
+owned_inside nodes tree AsElement k e end within is at = (tree.descendants e k within end at).0 (inside_element nodes tree k e within is)
 
 -- what is not inside an element restricts nothing of it
-pub none_outside : (nodes : List Node) → IsTree nodes → (owner : Owner) (element k end : ℕ) → k < length nodes → end_of nodes element ≡ Some end → ¬ ((element < k) × (k < end)) → base_at nodes (owner_of nodes owner) element k ≡ None
-none_outside nodes tree owner element k end within at outside = by (owner_of nodes owner k) refl
+pub none_outside : (nodes : List Node) → IsTree nodes → (restricted : Restricted) (element k end : ℕ) → k < length nodes → end_of nodes element ≡ Some end → ¬ ((element < k) × (k < end)) → base_of_restriction nodes (restricted_node nodes restricted) element k ≡ None
+none_outside nodes tree restricted element k end within at outside = by (restricted_node nodes restricted k) refl
   where
     text : Option Reference
     text = option_map (make_reference k) (text_at nodes k (codes "base"))
 
-    decided : (p : ℕ) (b : Bool) → owner_of nodes owner k ≡ Some p → (p == element) ≡ b → (if b then text else None) ≡ None
-    decided p true e same = absurd (outside (owned_inside nodes tree owner k element end within (e ∙ ap Some (eqb-true p element same)) at))
+    decided : (p : ℕ) (b : Bool) → restricted_node nodes restricted k ≡ Some p → (p == element) ≡ b → (if b then text else None) ≡ None
+    decided p true e same = absurd (outside (owned_inside nodes tree restricted k element end within (e ∙ ap Some (eqb-true p element same)) at))
     decided p false e same = refl
 
-    by : (o : Option ℕ) → owner_of nodes owner k ≡ o → (if is_place element o then text else None) ≡ None
+    by : (o : Option ℕ) → restricted_node nodes restricted k ≡ o → (if is_place element o then text else None) ≡ None
     by None e = refl
     by (Some p) e = decided p (p == element) e refl
 
 -- the same of a node that was read from the list
-pub none_beyond : (nodes read : List Node) → read ≡ nodes → IsTree read → (owner : Owner) (element k : ℕ) (d : Node) → element < length nodes → k < length nodes → ¬ ((element < k) × (k < (get_or read element d).end)) → base_at nodes (owner_of nodes owner) element k ≡ None
-none_beyond nodes read same tree owner element k d there within outside =
+pub none_beyond : (nodes read : List Node) → read ≡ nodes → IsTree read → (restricted : Restricted) (element k : ℕ) (d : Node) → element < length nodes → k < length nodes → ¬ ((element < k) × (k < (get_or read element d).end)) → base_of_restriction nodes (restricted_node nodes restricted) element k ≡ None
+none_beyond nodes read same tree restricted element k d there within outside =
     let here : element < length read = subst (λ ns. element < length ns) (sym same) there in
-    none_outside nodes (subst IsTree same tree) owner element k (get_or read element d).end within
+    none_outside nodes (subst IsTree same tree) restricted element k (get_or read element d).end within
     (ap (λ ns. end_of ns element) (sym same) ∙ ap (option_map (λ n. n.end)) (slice_get-get_or read element d here)) outside

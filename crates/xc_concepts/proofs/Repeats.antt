@@ -17,7 +17,7 @@ use Rattle.xc_concepts.specs.Declarations.{declared_at, concepts_in}
 use Rattle.xc_concepts.specs.Steps.{has_text, is_text, is_text_of, is_concept_of, AreTexts}
 use Rattle.xc_lists.specs.Places.{before, is_repeated}
 use Rattle.xc_concepts.specs.Rules.{is_same_name, repeats_concept}
-use Rattle.xc_concepts.specs.Schemas.{target, top_name}
+use Rattle.xc_concepts.specs.Schemas.{target_space, top_name}
 use Rattle.xc_concepts.specs.declared.schema.Concept.{Concept}
 use Rattle.xc_concepts.specs.declared.schema.Schema.{Schema}
 use Rattle.xc_elements.specs.declared.nodes.Node.{Node}
@@ -68,30 +68,30 @@ any_flat p (s ∷ schemas) =
     ∙ ap (list_any p) (sym (map-append name s.concepts (concepts_in schemas)))
 
 -- the names of concepts, by their local parts
-names_of : (nodes : List Node) (ks : List ℕ) → filter_map (λ k. option_map (λ d. d.name) (declared_at nodes k)) ks ≡ map (name_of (target nodes)) (filter_map (top_name nodes (codes "element")) ks)
+names_of : (nodes : List Node) (ks : List ℕ) → filter_map (λ k. option_map (λ d. d.name) (declared_at nodes k)) ks ≡ map (name_of (target_space nodes)) (filter_map (top_name nodes (codes "element")) ks)
 names_of nodes [] = refl
 names_of nodes (k ∷ ks) = by (top_name nodes (codes "element") k) refl (names_of nodes ks)
   where
-    by : (o : Option (List ℕ)) → top_name nodes (codes "element") k ≡ o → filter_map (λ k. option_map (λ d. d.name) (declared_at nodes k)) ks ≡ map (name_of (target nodes)) (filter_map (top_name nodes (codes "element")) ks)
-        → filter_map (λ k. option_map (λ d. d.name) (declared_at nodes k)) (k ∷ ks) ≡ map (name_of (target nodes)) (filter_map (top_name nodes (codes "element")) (k ∷ ks))
+    by : (o : Option (List ℕ)) → top_name nodes (codes "element") k ≡ o → filter_map (λ k. option_map (λ d. d.name) (declared_at nodes k)) ks ≡ map (name_of (target_space nodes)) (filter_map (top_name nodes (codes "element")) ks)
+        → filter_map (λ k. option_map (λ d. d.name) (declared_at nodes k)) (k ∷ ks) ≡ map (name_of (target_space nodes)) (filter_map (top_name nodes (codes "element")) (k ∷ ks))
     by None e rest = rw e rest
-    by (Some x) e rest = rw e (ap (λ xs. name_of (target nodes) x ∷ xs) rest)
+    by (Some x) e rest = rw e (ap (λ xs. name_of (target_space nodes) x ∷ xs) rest)
 
 same_space : (space x : List ℕ) (locals : List (List ℕ)) → list_any (is_same_name (name_of space x)) (map (name_of space) locals) ≡ list_any (bytes_eq x) locals
 same_space space x [] = refl
 same_space space x (y ∷ ys) = (λ i. (nat_list_eq_equiv.refl space i && bytes_eq x y) || same_space space x ys i)
 
 pub concept_repeated : (schemas : List Schema) (nodes : List Node) (at : ℕ) (space : List ℕ) (texts : List (Bor (List ℕ))) (local : Option (Bor (List ℕ)))
-    → space ≡ target nodes → option_map (λ t. t.now) local ≡ top_name nodes (codes "element") at → AreTexts texts (filter_map (top_name nodes (codes "element")) (before at))
+    → space ≡ target_space nodes → option_map (λ t. t.now) local ≡ top_name nodes (codes "element") at → AreTexts texts (filter_map (top_name nodes (codes "element")) (before at))
     → (is_concept_of schemas space local || is_text_of texts local) ≡ repeats_concept schemas nodes at
 concept_repeated schemas nodes at space texts local same here earlier = by local here
   where
     by : (local : Option (Bor (List ℕ))) → option_map (λ t. t.now) local ≡ top_name nodes (codes "element") at → (is_concept_of schemas space local || is_text_of texts local) ≡ repeats_concept schemas nodes at
     by None e = rw (← e) refl
     by (Some x) e =
-        let p : Expanded → Bool = is_same_name (name_of (target nodes) x.now) in
+        let p : Expanded → Bool = is_same_name (name_of (target_space nodes) x.now) in
         let old : List Expanded = map (λ c. c.declared.name) (concepts_in schemas) in
         let new : List Expanded = filter_map (λ k. option_map (λ d. d.name) (declared_at nodes k)) (before at) in
         let named : repeats_concept schemas nodes at ≡ list_any p (old ++ new) = rw (← e) refl in
-        rw same ((λ i. any_flat p schemas i || (earlier x.now ∙ sym (same_space (target nodes) x.now _) ∙ ap (list_any p) (sym (names_of nodes (before at)))) i)
+        rw same ((λ i. any_flat p schemas i || (earlier x.now ∙ sym (same_space (target_space nodes) x.now _) ∙ ap (list_any p) (sym (names_of nodes (before at)))) i)
         ∙ sym (list_any-append p old new) ∙ sym named)

@@ -2,7 +2,7 @@
 use Rattle.std.specs.Prelude.{◌≡◌, ℕ, List, codes, map, flat_map, filter_map, Option, option_map, option_and_then, is_some}
 use Rattle.xc_lists.specs.Places.{places}
 use Rattle.xc_concepts.specs.References.{type_name, type_of_element, base_of_type}
-use Rattle.xc_concepts.specs.Schemas.{dimensions_space, text_at, top_name, target}
+use Rattle.xc_concepts.specs.Schemas.{dimensions_space, text_at, top_name, target_space}
 use Rattle.xc_concepts.specs.declared.schema.Concept.{Concept}
 use Rattle.xc_concepts.specs.declared.schema.Declared.{Declared}
 use Rattle.xc_concepts.specs.declared.schema.NamedType.{NamedType}
@@ -15,7 +15,7 @@ use Rattle.xc_names.specs.Names.{name_of}
 abbrev pub declared_as : List Node → ℕ → List ℕ → Declared
 declared_as nodes at name = record {
   id = text_at nodes at (codes "id");
-  name = name_of (target nodes) name;
+  name = name_of (target_space nodes) name;
   first_type = option_and_then (type_name nodes) (type_of_element nodes at);
   typed = is_some (attribute_of nodes at dimensions_space (codes "typedDomainRef"));
 }
@@ -26,7 +26,7 @@ declared_at nodes at = option_map (declared_as nodes at) (top_name nodes (codes 
 
 -- the type that a node declares under this name, with the name of its base
 abbrev pub type_as : List Node → ℕ → List ℕ → NamedType
-type_as nodes at name = record { name = name_of (target nodes) name; base = option_and_then (type_name nodes) (base_of_type nodes at) }
+type_as nodes at name = record { name = name_of (target_space nodes) name; base = option_and_then (type_name nodes) (base_of_type nodes at) }
 
 -- the type that a node declares: an `xs:complexType` child of the root with a `name`
 abbrev pub named_type_at : List Node → ℕ → Option NamedType

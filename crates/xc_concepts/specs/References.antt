@@ -32,13 +32,13 @@ type_name nodes r =
     if is_plain_name r.text then Some (name_of (default_space nodes r.at) r.text)
     else option_and_then (prefixed_name nodes r.at) (split r.text)
 
--- the `base` of a restriction, where it restricts the content of this element. `owner` says whose content a restriction at a place restricts
-abbrev pub base_at : List Node → (ℕ → Option ℕ) → ℕ → ℕ → Option Reference
-base_at nodes owner element at = if is_place element (owner at) then option_map (make_reference at) (text_at nodes at (codes "base")) else None
+-- the `base` of the restriction at a place, where it restricts the content of this element; `restricted` says whose content a restriction restricts
+abbrev pub base_of_restriction : List Node → (ℕ → Option ℕ) → ℕ → ℕ → Option Reference
+base_of_restriction nodes restricted element at = if is_place element (restricted at) then option_map (make_reference at) (text_at nodes at (codes "base")) else None
 
 -- the first of them in the order of the document
 abbrev pub first_base : List Node → (ℕ → Option ℕ) → ℕ → Option Reference
-first_base nodes owner element = first_given (base_at nodes owner element) (places nodes)
+first_base nodes restricted element = first_given (base_of_restriction nodes restricted element) (places nodes)
 
 -- what names the base of an `xs:complexType`: the first `base` at the path `xs:simpleContent`, `xs:restriction` below it
 abbrev pub base_of_type : List Node → ℕ → Option Reference

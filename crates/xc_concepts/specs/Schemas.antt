@@ -42,17 +42,17 @@ abbrev pub top_name : List Node → List ℕ → ℕ → Option (List ℕ)
 top_name nodes local at = if is_top nodes local at then text_at nodes at (codes "name") else None
 
 -- the namespace of what a schema declares: the root's `targetNamespace`, or none
-abbrev pub target : List Node → List ℕ
-target nodes = unwrap_or (attribute_of nodes 0 [] (codes "targetNamespace")) []
+abbrev pub target_space : List Node → List ℕ
+target_space nodes = unwrap_or (attribute_of nodes 0 [] (codes "targetNamespace")) []
 
 -- the parent of the node, where the node is this element of XML Schema
-abbrev pub around : List Node → List ℕ → ℕ → Option ℕ
-around nodes local at = if is_schema_element nodes local at then parent_of nodes at else None
+abbrev pub element_around : List Node → List ℕ → ℕ → Option ℕ
+element_around nodes local at = if is_schema_element nodes local at then parent_of nodes at else None
 
 -- the node around the `xs:simpleContent` around this `xs:restriction`: the type that the restriction makes
 abbrev pub restricted_type : List Node → ℕ → Option ℕ
-restricted_type nodes at = option_and_then (around nodes (codes "simpleContent")) (around nodes (codes "restriction") at)
+restricted_type nodes at = option_and_then (element_around nodes (codes "simpleContent")) (element_around nodes (codes "restriction") at)
 
 -- the node around that one, where it is an `xs:complexType`: the element that has such a type of its own
 abbrev pub restricted_element : List Node → ℕ → Option ℕ
-restricted_element nodes at = option_and_then (around nodes (codes "complexType")) (restricted_type nodes at)
+restricted_element nodes at = option_and_then (element_around nodes (codes "complexType")) (restricted_type nodes at)

@@ -8,8 +8,8 @@ use Rattle.xc_concepts.specs.References.{Reference}
 use Rattle.xc_concepts.specs.Schemas.{restricted_type, restricted_element}
 use Rattle.xc_concepts.specs.declared.fault.SchemaFault.{SchemaFault}
 use Rattle.xc_concepts.specs.declared.fault.SchemaFault.TheVariants.{BadPrefix, SameId, SameConcept}
-use Rattle.xc_concepts.specs.declared.references.Owner.{Owner}
-use Rattle.xc_concepts.specs.declared.references.Owner.TheVariants.{OfType, OfElement}
+use Rattle.xc_concepts.specs.declared.references.Restricted.{Restricted}
+use Rattle.xc_concepts.specs.declared.references.Restricted.TheVariants.{AsType, AsElement}
 use Rattle.xc_concepts.specs.declared.references.Reference as lent
 use Rattle.xc_concepts.specs.declared.schema.Schema.{Schema}
 use Rattle.xc_elements.specs.declared.nodes.Node.{Node}
@@ -46,10 +46,10 @@ is_concept_of schemas space local = option_map_or (λ x. list_any (λ s. list_an
 
 -- ---- restrictions
 
--- whose content a restriction at a place restricts: that of a type, or of an element
-abbrev pub owner_of : List Node → Owner → ℕ → Option ℕ
-owner_of nodes OfType = restricted_type nodes
-owner_of nodes OfElement = restricted_element nodes
+-- the node whose content a restriction at a place restricts: a type, or an element
+abbrev pub restricted_node : List Node → Restricted → ℕ → Option ℕ
+restricted_node nodes AsType = restricted_type nodes
+restricted_node nodes AsElement = restricted_element nodes
 
 -- ---- the first of several faults
 
@@ -70,7 +70,7 @@ abbrev pub concept_fault : ℕ → Broken
 concept_fault at = (at, SameConcept at)
 
 -- the first of two faults: the one of the earlier node, and at one node the first
-abbrev pub earlier : Option Broken → Option Broken → Option Broken
-earlier None other = other
-earlier (Some one) None = Some one
-earlier (Some one) (Some other) = if nat_lt other.0 one.0 then Some other else Some one
+abbrev pub earlier_fault : Option Broken → Option Broken → Option Broken
+earlier_fault None other = other
+earlier_fault (Some one) None = Some one
+earlier_fault (Some one) (Some other) = if nat_lt other.0 one.0 then Some other else Some one

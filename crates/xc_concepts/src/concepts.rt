@@ -11,7 +11,7 @@ use crate::kind::Kind;
 use crate::kinds::{Kinds, kind_by, kinds_of};
 use crate::links::{Links, TypeName, concept_links, put_all, type_links};
 use crate::reading::read_schema;
-use crate::rules::first_broken;
+use crate::rules::first_node_fault;
 use crate::schema::Schema;
 use crate::typed::{is_typed, typed_numbers};
 use indexmap::IndexMap;
@@ -101,16 +101,16 @@ impl Concepts {
         if has_file(self.schemas.as_slice(), file) {
             return Err(SchemaFault::SameFile);
         }
-        if let Some(fault) = first_broken(self.alloc, self, names, tree)? {
+        if let Some(fault) = first_node_fault(self.alloc, self, names, tree)? {
             return Err(fault);
         }
         let schema = read_schema(self.alloc, names, file, tree)?;
-        self.keep(schema)?;
+        self.push_schema(schema)?;
         Ok(())
     }
 
     // All is gathered and room is made first, so that nothing is left behind where memory is wanting.
-    fn keep(&mut self, schema: Schema) -> Result<(), Memory>
+    fn push_schema(&mut self, schema: Schema) -> Result<(), Memory>
         requires { has_file self.old schema.file ≡ false }
         ensures kept { OnOk result (self.new ≡ self.old ++ schema ∷ []) }
         ensures err { OnErr result (self.new ≡ self.old) }
@@ -166,7 +166,7 @@ impl Concepts {
     }
 
     /// Whether a concept has this number.
-    pub(crate) fn has(&self, number: NameId) -> bool
+    pub(crate) fn has_number(&self, number: NameId) -> bool
         ensures { result ≡ is_some (concept_numbered self.now number.0) }
     {
         self.first_types.contains_key(&number.0)

@@ -1,6 +1,6 @@
 // The elements of a schema document.
 ghost use Rattle.std.specs.Prelude.{◌≡◌, ◌<◌, IfSome, length, option_map};
-ghost use Rattle.xc_concepts.specs.Schemas.{is_schema, is_schema_node, is_schema_element, text_at, is_top, top_name, target, around, restricted_type, restricted_element};
+ghost use Rattle.xc_concepts.specs.Schemas.{is_schema, is_schema_node, is_schema_element, text_at, is_top, top_name, target_space, element_around, restricted_type, restricted_element};
 ghost use Rattle.xc_lists.specs.Places.{is_place};
 
 use xc_elements::{Node, Tree};
@@ -70,9 +70,9 @@ pub(crate) fn is_place(at: u32, place: Option<u32>) -> bool
 }
 
 /// The namespace of what the schema declares, empty where it has none.
-pub(crate) fn target(tree: &Tree) -> &str
+pub(crate) fn target_space(tree: &Tree) -> &str
     requires { 0 < length tree.now }
-    ensures { result.now ≡ target tree.now }
+    ensures { result.now ≡ target_space tree.now }
 {
     match tree.attribute(0, "", "targetNamespace") {
         Some(space) => space,
@@ -81,9 +81,9 @@ pub(crate) fn target(tree: &Tree) -> &str
 }
 
 /// The parent of the node, where the node is this element of XML Schema.
-pub(crate) fn around(tree: &Tree, local: &str, at: u32) -> Option<u32>
+pub(crate) fn element_around(tree: &Tree, local: &str, at: u32) -> Option<u32>
     requires { at < length tree.now }
-    ensures around { result ≡ around tree.now local.now at }
+    ensures element_around { result ≡ element_around tree.now local.now at }
     ensures earlier { IfSome result (λ p. p < at) }
 {
     if is_schema_element(tree, local, at) {

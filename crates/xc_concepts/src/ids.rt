@@ -45,10 +45,10 @@ fn note_id(numbers: &mut Numbers, alloc: Global, concept: &Concept) -> Result<()
     if numbers.contains_key(id.as_str()) {
         return Ok(());
     }
-    note_new(numbers, alloc, id.as_str(), concept.number.0)
+    insert_number(numbers, alloc, id.as_str(), concept.number.0)
 }
 
-fn note_new(numbers: &mut Numbers, alloc: Global, id: &str, number: u64) -> Result<(), Memory>
+fn insert_number(numbers: &mut Numbers, alloc: Global, id: &str, number: u64) -> Result<(), Memory>
     ensures { OnOk result ((i : List ℕ) → get_by_text numbers.new i ≡ cond (bytes_eq id.now i) (Some number) (get_by_text numbers.old i)) }
 {
     let key = String::from_str(alloc, id)?;

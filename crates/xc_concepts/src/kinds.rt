@@ -7,7 +7,7 @@ ghost use Rattle.xc_concepts.specs.Steps.Links.{as_name, AreBases};
 ghost use Rattle.xc_concepts.specs.declared.schema.NamedType.{NamedType};
 
 use crate::kind::{Kind, base_name, count_types, kind_of_last};
-use crate::links::{Links, TypeName, copied_key};
+use crate::links::{Links, TypeName, copy_key};
 use crate::schema::Schema;
 use indexmap::IndexMap;
 use std::alloc::Global;
@@ -48,13 +48,13 @@ pub(crate) fn kinds_of(
     let count = count_types(schemas);
     let mut kinds = IndexMap::new(alloc);
     for name in bases.keys() {
-        note_from(&mut kinds, bases, count, name)?;
+        note_chain(&mut kinds, bases, count, name)?;
     }
     Ok(kinds)
 }
 
 // Notes the kinds of the names of a chain, up to the first that is known.
-fn note_from(
+fn note_chain(
     kinds: &mut Kinds,
     bases: &Links<TypeName>,
     count: u128,
@@ -63,7 +63,7 @@ fn note_from(
     ensures { OnOk result ((types : List NamedType) → AreBases types bases.now → AreKinds types kinds.old → count ≡ length types → AreKinds types kinds.new) }
 {
     let (kind, steps) = walk(bases, kinds, count, first);
-    note(kinds, bases, first, kind, steps)?;
+    note_kind(kinds, bases, first, kind, steps)?;
     Ok(())
 }
 
@@ -99,7 +99,7 @@ fn walk(bases: &Links<TypeName>, kinds: &Kinds, count: u128, first: &TypeName) -
 }
 
 // Notes a kind for so many names of a chain.
-fn note(
+fn note_kind(
     kinds: &mut Kinds,
     bases: &Links<TypeName>,
     first: &TypeName,
@@ -111,7 +111,7 @@ fn note(
     let mut name = first;
     let mut left = steps;
     while left > 0 {
-        kinds.insert(copied_key(name)?, kind)?;
+        kinds.insert(copy_key(name)?, kind)?;
         left -= 1;
         if let Some(base) = base_name(bases, name) {
             name = base;

@@ -70,7 +70,7 @@ fn concept_link(concept: &Concept) -> Result<Link<u64>, Memory>
 {
     Ok(Link {
         key: concept.number.0,
-        next: copied_name(&concept.declared.first_type)?,
+        next: optional_key(&concept.declared.first_type)?,
     })
 }
 
@@ -90,21 +90,23 @@ fn type_link(named: &NamedType) -> Result<Link<TypeName>, Memory>
     ensures next { IfOk result (λ link. option_map as_name link.next ≡ named.now.base) }
 {
     Ok(Link {
-        key: type_name(&named.name)?,
-        next: copied_name(&named.base)?,
+        key: key_of(&named.name)?,
+        next: optional_key(&named.base)?,
     })
 }
 
-fn copied_name(name: &Option<Expanded>) -> Result<Option<TypeName>, Memory>
+// The key of a name, where there is one.
+fn optional_key(name: &Option<Expanded>) -> Result<Option<TypeName>, Memory>
     ensures { IfOk result (λ copy. option_map as_name copy ≡ name.now) }
 {
     match name {
-        Some(name) => Ok(Some(type_name(name)?)),
+        Some(name) => Ok(Some(key_of(name)?)),
         None => Ok(None),
     }
 }
 
-fn type_name(name: &Expanded) -> Result<TypeName, Memory>
+// The key of a name.
+fn key_of(name: &Expanded) -> Result<TypeName, Memory>
     ensures { IfOk result (λ copy. as_name copy ≡ name.now) }
 {
     Ok(TypeName {
@@ -114,7 +116,7 @@ fn type_name(name: &Expanded) -> Result<TypeName, Memory>
 }
 
 /// A name that is the same.
-pub(crate) fn copied_key(name: &TypeName) -> Result<TypeName, Memory>
+pub(crate) fn copy_key(name: &TypeName) -> Result<TypeName, Memory>
     ensures { IfOk result (λ copy. copy ≡ name.now) }
 {
     Ok(TypeName {

@@ -6,7 +6,7 @@ ghost use Rattle.xc_concepts.specs.References.{type_name};
 ghost use Rattle.xc_concepts.specs.Steps.{reference_view};
 ghost use Rattle.xc_names.specs.Names.{KeepsNumbers};
 
-use crate::elements::{target, text_at, top_name};
+use crate::elements::{target_space, text_at, top_name};
 use crate::references::{Reference, base_of_type, type_name, type_of_element};
 use crate::schema::{Concept, Declared, NamedType, Schema};
 use std::alloc::Global;
@@ -45,7 +45,7 @@ fn read_concepts(alloc: Global, names: &mut Names, tree: &Tree) -> Result<Vec<Co
 {
     let mut concepts = Vec::new(alloc);
     for at in 0..tree.count() {
-        keep(&mut concepts, concept_at(alloc, names, tree, at)?)?;
+        push_some(&mut concepts, concept_at(alloc, names, tree, at)?)?;
     }
     Ok(concepts)
 }
@@ -66,7 +66,7 @@ fn concept_at(
         return Ok(None);
     };
     let declared = declared_as(alloc, tree, at, name)?;
-    let number = names.number(target(tree), name)?;
+    let number = names.number(target_space(tree), name)?;
     Ok(Some(Concept { number, declared }))
 }
 
@@ -75,9 +75,9 @@ fn declared_as(alloc: Global, tree: &Tree, at: u32, name: &str) -> Result<Declar
     ensures { IfOk result (λ declared. declared ≡ declared_as tree.now at name.now) }
 {
     Ok(Declared {
-        id: copied(alloc, text_at(tree, at, "id"))?,
-        name: Expanded::of(alloc, target(tree), name)?,
-        first_type: named(alloc, tree, type_of_element(tree, at))?,
+        id: copy_text(alloc, text_at(tree, at, "id"))?,
+        name: Expanded::of(alloc, target_space(tree), name)?,
+        first_type: copy_type_name(alloc, tree, type_of_element(tree, at))?,
         typed: tree
             .attribute(at, DIMENSIONS_SPACE, "typedDomainRef")
             .is_some(),
@@ -90,7 +90,7 @@ fn read_types(alloc: Global, tree: &Tree) -> Result<Vec<NamedType>, Memory>
 {
     let mut types = Vec::new(alloc);
     for at in 0..tree.count() {
-        keep(&mut types, named_type_at(alloc, tree, at)?)?;
+        push_some(&mut types, named_type_at(alloc, tree, at)?)?;
     }
     Ok(types)
 }
@@ -104,13 +104,13 @@ fn named_type_at(alloc: Global, tree: &Tree, at: u32) -> Result<Option<NamedType
         return Ok(None);
     };
     Ok(Some(NamedType {
-        name: Expanded::of(alloc, target(tree), name)?,
-        base: named(alloc, tree, base_of_type(tree, at))?,
+        name: Expanded::of(alloc, target_space(tree), name)?,
+        base: copy_type_name(alloc, tree, base_of_type(tree, at))?,
     }))
 }
 
 // The name of the type that a text names.
-fn named(
+fn copy_type_name(
     alloc: Global,
     tree: &Tree,
     reference: Option<Reference<'_>>,
@@ -127,7 +127,7 @@ fn named(
     }
 }
 
-fn copied(alloc: Global, text: Option<&str>) -> Result<Option<Text>, Memory>
+fn copy_text(alloc: Global, text: Option<&str>) -> Result<Option<Text>, Memory>
     ensures { IfOk result (λ copy. copy ≡ option_map (λ t. t.now) text.entry) }
 {
     match text {
@@ -137,7 +137,7 @@ fn copied(alloc: Global, text: Option<&str>) -> Result<Option<Text>, Memory>
 }
 
 // Puts what there is at the end of a list.
-fn keep<T: Drop>(list: &mut Vec<T>, item: Option<T>) -> Result<(), Memory>
+fn push_some<T: Drop>(list: &mut Vec<T>, item: Option<T>) -> Result<(), Memory>
     ensures { OnOk result (list.new.items ≡ list.old.items ++ option_to_list item) }
 {
     if let Some(item) = item {

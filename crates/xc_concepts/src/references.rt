@@ -2,10 +2,10 @@
 ghost use Rattle.std.specs.Prelude.{◌≡◌, ◌<◌, IfSome, length, option_map};
 ghost use Rattle.xc_names.specs.Names.{lent_name};
 ghost use Rattle.xc_concepts.specs.Schemas.{restricted_type, restricted_element};
-ghost use Rattle.xc_concepts.specs.References.{default_space, type_name, base_at, first_base, base_of_type, type_of_element, judged_at};
-ghost use Rattle.xc_concepts.specs.Steps.{reference_view, owner_of};
+ghost use Rattle.xc_concepts.specs.References.{default_space, type_name, base_of_restriction, first_base, base_of_type, type_of_element, judged_at};
+ghost use Rattle.xc_concepts.specs.Steps.{reference_view, restricted_node};
 
-use crate::elements::{around, is_place, text_at, top_name};
+use crate::elements::{element_around, is_place, text_at, top_name};
 use xc_chars::{is_plain_name, split};
 use xc_elements::Tree;
 
@@ -19,9 +19,9 @@ pub(crate) struct Reference<'a> {
 /// Whose content a restriction restricts: that of a complex type, or of an element that has such a
 /// type of its own.
 #[derive(Clone, Copy)]
-pub(crate) enum Owner {
-    OfType,
-    OfElement,
+pub(crate) enum Restricted {
+    AsType,
+    AsElement,
 }
 
 /// The namespace and the local part of the type that a text names at its node.
@@ -51,13 +51,13 @@ fn default_space(tree: &Tree, at: u32) -> &str
     }
 }
 
-fn owner_of(tree: &Tree, owner: Owner, at: u32) -> Option<u32>
+fn restricted_node(tree: &Tree, restricted: Restricted, at: u32) -> Option<u32>
     requires { at < length tree.now }
-    ensures { result ≡ owner_of tree.now owner at }
+    ensures { result ≡ restricted_node tree.now restricted at }
 {
-    match owner {
-        Owner::OfType => restricted_type(tree, at),
-        Owner::OfElement => restricted_element(tree, at),
+    match restricted {
+        Restricted::AsType => restricted_type(tree, at),
+        Restricted::AsElement => restricted_element(tree, at),
     }
 }
 
@@ -66,10 +66,10 @@ fn restricted_type(tree: &Tree, at: u32) -> Option<u32>
     ensures restricted { result ≡ restricted_type tree.now at }
     ensures earlier { IfSome result (λ p. p < at) }
 {
-    let Some(content) = around(tree, "restriction", at) else {
+    let Some(content) = element_around(tree, "restriction", at) else {
         return None;
     };
-    around(tree, "simpleContent", content)
+    element_around(tree, "simpleContent", content)
 }
 
 fn restricted_element(tree: &Tree, at: u32) -> Option<u32>
@@ -79,15 +79,20 @@ fn restricted_element(tree: &Tree, at: u32) -> Option<u32>
     let Some(complex) = restricted_type(tree, at) else {
         return None;
     };
-    around(tree, "complexType", complex)
+    element_around(tree, "complexType", complex)
 }
 
-fn base_at<'a>(tree: &'a Tree, owner: Owner, element: u32, at: u32) -> Option<Reference<'a>>
+fn base_of_restriction<'a>(
+    tree: &'a Tree,
+    restricted: Restricted,
+    element: u32,
+    at: u32,
+) -> Option<Reference<'a>>
     requires { at < length tree.now }
-    ensures reference { option_map reference_view result ≡ base_at tree.now (owner_of tree.now owner) element at }
+    ensures reference { option_map reference_view result ≡ base_of_restriction tree.now (restricted_node tree.now restricted) element at }
     ensures within { IfSome result (λ r. r.at < length tree.now) }
 {
-    if !is_place(element, owner_of(tree, owner, at)) {
+    if !is_place(element, restricted_node(tree, restricted, at)) {
         return None;
     }
     match text_at(tree, at, "base") {
@@ -97,14 +102,14 @@ fn base_at<'a>(tree: &'a Tree, owner: Owner, element: u32, at: u32) -> Option<Re
 }
 
 // What an element's content restricts stands inside it, so nothing behind its end is looked at.
-fn first_base<'a>(tree: &'a Tree, owner: Owner, element: u32) -> Option<Reference<'a>>
+fn first_base<'a>(tree: &'a Tree, restricted: Restricted, element: u32) -> Option<Reference<'a>>
     requires { element < length tree.now }
-    ensures reference { option_map reference_view result ≡ first_base tree.now (owner_of tree.now owner) element }
+    ensures reference { option_map reference_view result ≡ first_base tree.now (restricted_node tree.now restricted) element }
     ensures within { IfSome result (λ r. r.at < length tree.now) }
 {
     let end = tree.nodes()[element as usize].end.min(tree.count());
     for at in element + 1..end {
-        let base = base_at(tree, owner, element, at);
+        let base = base_of_restriction(tree, restricted, element, at);
         if base.is_some() {
             return base;
         }
@@ -118,7 +123,7 @@ pub(crate) fn base_of_type<'a>(tree: &'a Tree, at: u32) -> Option<Reference<'a>>
     ensures reference { option_map reference_view result ≡ base_of_type tree.now at }
     ensures within { IfSome result (λ r. r.at < length tree.now) }
 {
-    first_base(tree, Owner::OfType, at)
+    first_base(tree, Restricted::AsType, at)
 }
 
 /// What names the type of an element.
@@ -129,7 +134,7 @@ pub(crate) fn type_of_element<'a>(tree: &'a Tree, at: u32) -> Option<Reference<'
 {
     match text_at(tree, at, "type") {
         Some(text) => Some(Reference { at, text }),
-        None => first_base(tree, Owner::OfElement, at),
+        None => first_base(tree, Restricted::AsElement, at),
     }
 }
 

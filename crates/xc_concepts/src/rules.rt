@@ -4,11 +4,11 @@ ghost use Rattle.std.specs.List.{list_any};
 ghost use Rattle.xc_lists.specs.Places.{places, first_place, first_given, least};
 ghost use Rattle.xc_concepts.specs.Held.{AreHeld};
 ghost use Rattle.xc_concepts.specs.Rules.{nameless_at, is_nameless, id_at, repeats_id, repeats_concept, broken_at};
-ghost use Rattle.xc_concepts.specs.Steps.{has_text, is_text, is_text_of, is_concept_of, nameless_fault, id_fault, concept_fault, earlier};
+ghost use Rattle.xc_concepts.specs.Steps.{has_text, is_text, is_text_of, is_concept_of, nameless_fault, id_fault, concept_fault, earlier_fault};
 ghost use Rattle.xc_names.specs.Names.{is_named};
 
 use crate::concepts::Concepts;
-use crate::elements::{target, text_at, top_name};
+use crate::elements::{target_space, text_at, top_name};
 use crate::fault::SchemaFault;
 use crate::references::{judged_at, type_name};
 use std::alloc::Global;
@@ -19,7 +19,7 @@ use xc_names::Names;
 use xc_names::laws::numbers_tell_names;
 
 /// The first rule that a node of the document breaks.
-pub(crate) fn first_broken(
+pub(crate) fn first_node_fault(
     alloc: Global,
     concepts: &Concepts,
     names: &Names,
@@ -31,7 +31,7 @@ pub(crate) fn first_broken(
     let nameless = nameless_fault(first_nameless(tree));
     let id = id_fault(first_repeated_id(alloc, tree)?);
     let concept = concept_fault(first_repeated_concept(alloc, concepts, names, tree)?);
-    match earlier(earlier(nameless, id), concept) {
+    match earlier_fault(earlier_fault(nameless, id), concept) {
         Some((_, fault)) => Ok(Some(fault)),
         None => Ok(None),
     }
@@ -56,11 +56,11 @@ fn concept_fault(at: Option<u32>) -> Option<(u32, SchemaFault)>
 }
 
 // The fault of the earlier node, and at one node the first.
-fn earlier(
+fn earlier_fault(
     one: Option<(u32, SchemaFault)>,
     other: Option<(u32, SchemaFault)>,
 ) -> Option<(u32, SchemaFault)>
-    ensures { result ≡ earlier one other }
+    ensures { result ≡ earlier_fault one other }
 {
     match (one, other) {
         (None, other) => other,
@@ -146,16 +146,16 @@ fn first_repeated_concept(
     let mut locals = BTreeSet::new(alloc);
     for at in 0..tree.count() {
         let local = top_name(tree, "element", at);
-        if is_taken(concepts, names, target(tree), &mut locals, local)? {
+        if note_concept_name(concepts, names, target_space(tree), &mut locals, local)? {
             return Ok(Some(at));
         }
     }
     Ok(None)
 }
 
-// Whether there is a local part, and a concept of this name is in one of the schemas or among these,
-// to which it is put.
-fn is_taken<'a>(
+// Puts a local part, where there is one, among these, and tells whether it was there, or one of the
+// schemas has a concept of this name.
+fn note_concept_name<'a>(
     concepts: &Concepts,
     names: &Names,
     space: &str,
@@ -199,7 +199,7 @@ fn is_declared(concepts: &Concepts, names: &Names, space: &str, local: &str) -> 
 {
     numbers_tell_names();
     match names.find(space, local) {
-        Some(number) => concepts.has(number),
+        Some(number) => concepts.has_number(number),
         None => false,
     }
 }

@@ -17,13 +17,16 @@ pub struct Declared {
 /// A concept with the number of its name.
 #[derive(Debug, Drop)]
 pub struct Concept {
+    /// The number of its name.
     pub number: NameId,
+    /// What its element declares.
     pub declared: Declared,
 }
 
 /// A complex type of a schema that has a name.
 #[derive(Debug, Drop)]
 pub struct NamedType {
+    /// The schema's target namespace and the name of the type.
     pub name: Expanded,
     /// The name of the type whose simple content it restricts.
     pub base: Option<Expanded>,
@@ -34,6 +37,8 @@ pub struct NamedType {
 pub struct Schema {
     /// The name of its file.
     pub file: Text,
+    /// Its concepts.
     pub concepts: Items<Concept>,
+    /// Its complex types that have a name.
     pub types: Items<NamedType>,
 }

@@ -36,21 +36,21 @@ pub(crate) fn typed_numbers(alloc: Global, schemas: &[Schema]) -> Result<NameSet
 {
     let mut numbers = NameSet::new(alloc);
     for schema in schemas {
-        note_all(&mut numbers, schema.concepts.as_slice())?;
+        note_all_typed(&mut numbers, schema.concepts.as_slice())?;
     }
     Ok(numbers)
 }
 
-fn note_all(numbers: &mut NameSet, concepts: &[Concept]) -> Result<(), Memory>
+fn note_all_typed(numbers: &mut NameSet, concepts: &[Concept]) -> Result<(), Memory>
     ensures { OnOk result ((n : ℕ) → is_among numbers.new n ≡ (is_among numbers.old n || list_any (is_typed_as n) concepts.now)) }
 {
     for concept in concepts {
-        note(numbers, concept)?;
+        note_typed(numbers, concept)?;
     }
     Ok(())
 }
 
-fn note(numbers: &mut NameSet, concept: &Concept) -> Result<(), Memory>
+fn note_typed(numbers: &mut NameSet, concept: &Concept) -> Result<(), Memory>
     ensures { OnOk result ((n : ℕ) → is_among numbers.new n ≡ (is_among numbers.old n || is_typed_as n concept.now)) }
 {
     if concept.declared.typed {

@@ -3,7 +3,7 @@ use Rattle.std.proofs.Common.{◌≡◌, ℕ, ◌<◌, Bool, true, false, List, 
 use Rattle.std.proofs.lemmas.List.{append_cancel_right}
 use Rattle.xc_elements.specs.Fronts.{one, by_next}
 use Rattle.xc_elements.specs.Items.{Meaning, item}
-use Rattle.xc_elements.specs.Documents.{Piece, AreItems, joined, Cuts, begins, OneCut, OneFault}
+use Rattle.xc_elements.specs.Documents.{Piece, AreItems, joined_texts, Cuts, begins, OneCut, OneFault}
 use Rattle.xc_elements.proofs.FrontLaws.{same_answer}
 use Rattle.xc_elements.proofs.ItemLaws.{item_ends}
 use Rattle.xc_elements.proofs.ReadLaws.{append-nil}
@@ -34,19 +34,19 @@ pub begins-false : (ps : List Piece) → begins false ps ≡ false
 begins-false [] = refl
 begins-false (p ∷ ps) = refl
 
-pub stops_early : (is_first : Bool) (q : Piece) (qs : List Piece) (r s : List ℕ) → item is_first r ≡ None → item is_first q.text ≡ Some (q.meaning, []) → r ≡ joined (q ∷ qs) ++ s → ⊥
+pub stops_early : (is_first : Bool) (q : Piece) (qs : List Piece) (r s : List ℕ) → item is_first r ≡ None → item is_first q.text ≡ Some (q.meaning, []) → r ≡ joined_texts (q ∷ qs) ++ s → ⊥
 stops_early is_first q qs r s stop here e =
-    let goes = item_goes_on is_first q.text (joined qs ++ s) q.meaning here in
-    let both = sym stop ∙ ap (λ (t : List ℕ). item is_first t) (e ∙ append_assoc q.text (joined qs) s) ∙ goes in
+    let goes = item_goes_on is_first q.text (joined_texts qs ++ s) q.meaning here in
+    let both = sym stop ∙ ap (λ (t : List ℕ). item is_first t) (e ∙ append_assoc q.text (joined_texts qs) s) ∙ goes in
     cc
 
 -- cuts that lead to a place where no item stands are one
-cuts_same : (is_first : Bool) (ps qs : List Piece) (r s : List ℕ) → AreItems is_first ps → AreItems is_first qs → item (begins is_first ps) r ≡ None → item (begins is_first qs) s ≡ None → joined ps ++ r ≡ joined qs ++ s → (ps ≡ qs) × (r ≡ s)
+cuts_same : (is_first : Bool) (ps qs : List Piece) (r s : List ℕ) → AreItems is_first ps → AreItems is_first qs → item (begins is_first ps) r ≡ None → item (begins is_first qs) s ≡ None → joined_texts ps ++ r ≡ joined_texts qs ++ s → (ps ≡ qs) × (r ≡ s)
 cuts_same is_first [] [] r s ip iq sp sq e = (refl, e)
 cuts_same is_first [] (q ∷ qs) r s ip iq sp sq e = absurd (stops_early is_first q qs r s sp iq.0 e)
 cuts_same is_first (p ∷ ps) [] r s ip iq sp sq e = absurd (stops_early is_first p ps s r sq ip.0 (sym e))
 cuts_same is_first (p ∷ ps) (q ∷ qs) r s ip iq sp sq e =
-    let first = same_piece is_first p q (joined ps ++ r) (joined qs ++ s) ip.0 iq.0 (sym (append_assoc p.text (joined ps) r) ∙ e ∙ append_assoc q.text (joined qs) s) in
+    let first = same_piece is_first p q (joined_texts ps ++ r) (joined_texts qs ++ s) ip.0 iq.0 (sym (append_assoc p.text (joined_texts ps) r) ∙ e ∙ append_assoc q.text (joined_texts qs) s) in
     let others = cuts_same false ps qs r s ip.1 iq.1 (ap (λ b. item b r) (begins-false ps) ∙ sp) (ap (λ b. item b s) (begins-false qs) ∙ sq) first.1 in
     (ap (λ x. x ∷ ps) first.0 ∙ ap (λ xs. q ∷ xs) others.0, others.1)
 
@@ -66,20 +66,11 @@ pub items_more : (is_first : Bool) (ps : List Piece) (p : Piece) → AreItems is
 items_more is_first [] p h e = (e, tt)
 items_more is_first (q ∷ qs) p h e = (h.0, items_more false qs p h.1 (ap (λ b. item b p.text) (begins-false qs) ∙ e))
 
-pub joined_more : (ps : List Piece) (text : List ℕ) (m : Meaning) (after : List ℕ) → joined (ps ++ piece_of text m ∷ []) ++ after ≡ joined ps ++ (text ++ after)
+pub joined_more : (ps : List Piece) (text : List ℕ) (m : Meaning) (after : List ℕ) → joined_texts (ps ++ piece_of text m ∷ []) ++ after ≡ joined_texts ps ++ (text ++ after)
 joined_more [] text m after = ap (λ (t : List ℕ). t ++ after) (append-nil text)
 joined_more (q ∷ qs) text m after =
-    append_assoc q.text (joined (qs ++ piece_of text m ∷ [])) after ∙ ap (λ (t : List ℕ). q.text ++ t) (joined_more qs text m after) ∙ sym (append_assoc q.text (joined qs) (text ++ after))
+    append_assoc q.text (joined_texts (qs ++ piece_of text m ∷ [])) after ∙ ap (λ (t : List ℕ). q.text ++ t) (joined_more qs text m after) ∙ sym (append_assoc q.text (joined_texts qs) (text ++ after))
 
 pub begun : (ps : List Piece) (p : Piece) → begins true (ps ++ p ∷ []) ≡ false
 begun [] p = refl
 begun (q ∷ qs) p = refl
-
--- one more item
-pub cuts_more : (text rest after : List ℕ) (ps : List Piece) (m : Meaning) → Cuts true text ps rest → item (begins true ps) rest ≡ Some (m, after) → (qs : List Piece) × Cuts true text qs after × (begins true qs ≡ false)
-cuts_more text rest after ps m c e =
-    let t = item_piece (begins true ps) rest after m e in (
-      ps ++ piece_of t.0 m ∷ [],
-      record { items = items_more true ps (piece_of t.0 m) c.items t.2; whole = c.whole ∙ ap (λ (r : List ℕ). joined ps ++ r) t.1 ∙ sym (joined_more ps t.0 m after) },
-      begun ps (piece_of t.0 m),
-    )

@@ -6,11 +6,11 @@ use Rattle.std.specs.Str.Lossy.{utf8_valid_len}
 use Rattle.std.proofs.lemmas.List.{length-append, map-append, reverse-append}
 use Rattle.std.proofs.lemmas.Str.{encodes-append, length-le-encodes}
 use Rattle.xc_elements.specs.Items.{Meaning, item, begins_doctype}
-use Rattle.xc_elements.specs.Documents.{Piece, AreItems, joined, Cuts, begins, bytes_of, text_of, StopsAt}
+use Rattle.xc_elements.specs.Documents.{Piece, AreItems, joined_texts, Cuts, begins, bytes_of, text_of, StopsAt}
 use Rattle.xc_elements.specs.Elements.{is_unbalanced, is_unfinished, is_too_deep, has_no_space, has_same_attribute}
 use Rattle.xc_elements.specs.Steps.Reading.{IsFine, IsRefused}
-use Rattle.xc_elements.specs.Steps.Refusals.{refused_at}
-use Rattle.xc_elements.specs.DocumentTrees.{meanings, backward, HasAt, EndsAt, Stands, byte_of, rank_of, IsBefore, IsFirstFault, IsRefusal}
+use Rattle.xc_elements.specs.Steps.Refusals.{fault_at}
+use Rattle.xc_elements.specs.DocumentTrees.{meanings, meanings_backward, HasAt, EndsAt, Stands, byte_of, rank_of, IsBefore, IsFirstFault, IsRefusal}
 use Rattle.xc_elements.specs.declared.fault.TreeFault.{TreeFault}
 use Rattle.xc_elements.specs.declared.fault.TreeFault.TheVariants as faults
 use Rattle.xc_elements.specs.declared.refusal.Refusal.{Refusal}
@@ -23,18 +23,18 @@ use Rattle.xc_elements.proofs.StackLaws.{backward_more}
 
 -- of two cuts the one goes on where the other ends
 pub data Compared (is_first : Bool) (ps qs : List Piece) (r s : List ℕ) : Type 0 where
-  Behind : (more : List Piece) → qs ≡ ps ++ more → r ≡ joined more ++ s → Compared is_first ps qs r s
-  Ahead : (p : Piece) (more : List Piece) → ps ≡ qs ++ p ∷ more → s ≡ joined (p ∷ more) ++ r → item (begins is_first qs) p.text ≡ Some (p.meaning, []) → Compared is_first ps qs r s
+  Behind : (more : List Piece) → qs ≡ ps ++ more → r ≡ joined_texts more ++ s → Compared is_first ps qs r s
+  Ahead : (p : Piece) (more : List Piece) → ps ≡ qs ++ p ∷ more → s ≡ joined_texts (p ∷ more) ++ r → item (begins is_first qs) p.text ≡ Some (p.meaning, []) → Compared is_first ps qs r s
 
 further : (p : Piece) (is_first : Bool) (ps qs : List Piece) (r s : List ℕ) → Compared false ps qs r s → Compared is_first (p ∷ ps) (p ∷ qs) r s
 further p is_first ps qs r s (Behind more e f) = Behind more (ap (λ xs. p ∷ xs) e) f
 further p is_first ps qs r s (Ahead q more e f i) = Ahead q more (ap (λ xs. p ∷ xs) e) f (ap (λ b. item b q.text) (sym (begins-false qs)) ∙ i)
 
-compared : (is_first : Bool) (ps qs : List Piece) (r s : List ℕ) → AreItems is_first ps → AreItems is_first qs → joined ps ++ r ≡ joined qs ++ s → Compared is_first ps qs r s
+compared : (is_first : Bool) (ps qs : List Piece) (r s : List ℕ) → AreItems is_first ps → AreItems is_first qs → joined_texts ps ++ r ≡ joined_texts qs ++ s → Compared is_first ps qs r s
 compared is_first [] qs r s ip iq e = Behind qs refl e
 compared is_first (p ∷ ps) [] r s ip iq e = Ahead p ps refl (sym e) ip.0
 compared is_first (p ∷ ps) (q ∷ qs) r s ip iq e =
-    let first = same_piece is_first p q (joined ps ++ r) (joined qs ++ s) ip.0 iq.0 (sym (append_assoc p.text (joined ps) r) ∙ e ∙ append_assoc q.text (joined qs) s) in
+    let first = same_piece is_first p q (joined_texts ps ++ r) (joined_texts qs ++ s) ip.0 iq.0 (sym (append_assoc p.text (joined_texts ps) r) ∙ e ∙ append_assoc q.text (joined_texts qs) s) in
     subst (λ x. Compared is_first (p ∷ ps) (x ∷ qs) r s) first.0 (further p is_first ps qs r s (compared false ps qs r s ip.1 iq.1 first.1))
 
 pub compared_cuts : (text : List ℕ) (ps qs : List Piece) (r s : List ℕ) → Cuts true text ps r → Cuts true text qs s → Compared true ps qs r s
@@ -68,20 +68,20 @@ fine_within : (xs ys : List Meaning) → AreFine (xs ++ ys) → AreFine ys
 fine_within [] ys h = h
 fine_within (x ∷ xs) ys h = fine_within xs ys h.1
 
-pub backward_last : (ps : List Piece) (p : Piece) → backward (ps ++ p ∷ []) ≡ p.meaning ∷ backward ps
+pub backward_last : (ps : List Piece) (p : Piece) → meanings_backward (ps ++ p ∷ []) ≡ p.meaning ∷ meanings_backward ps
 backward_last ps p = backward_more (λ x. x.meaning) ps p
 
-backward_append : (ps qs : List Piece) → backward (ps ++ qs) ≡ backward qs ++ backward ps
+backward_append : (ps qs : List Piece) → meanings_backward (ps ++ qs) ≡ meanings_backward qs ++ meanings_backward ps
 backward_append ps qs = ap reverse (map-append (λ p. p.meaning) ps qs) ∙ reverse-append (meanings ps) (meanings qs)
 
-fine_at : (qs : List Piece) (q : Piece) (more ps : List Piece) → ps ≡ qs ++ q ∷ more → AreFine (backward ps) → IsFine (backward qs) q.meaning
+fine_at : (qs : List Piece) (q : Piece) (more ps : List Piece) → ps ≡ qs ++ q ∷ more → AreFine (meanings_backward ps) → IsFine (meanings_backward qs) q.meaning
 fine_at qs q more ps e h =
-    let all : backward ps ≡ backward more ++ (q.meaning ∷ backward qs) =
-    ap backward e ∙ backward_append qs (q ∷ more)
-    ∙ ap (λ ms. ms ++ backward qs) (backward_append (q ∷ []) more)
-    ∙ append_assoc (backward more) (q.meaning ∷ []) (backward qs)
+    let all : meanings_backward ps ≡ meanings_backward more ++ (q.meaning ∷ meanings_backward qs) =
+    ap meanings_backward e ∙ backward_append qs (q ∷ more)
+    ∙ ap (λ ms. ms ++ meanings_backward qs) (backward_append (q ∷ []) more)
+    ∙ append_assoc (meanings_backward more) (q.meaning ∷ []) (meanings_backward qs)
     in
-    (fine_within (backward more) (q.meaning ∷ backward qs) (subst (λ ms. AreFine ms) all h)).0
+    (fine_within (meanings_backward more) (q.meaning ∷ meanings_backward qs) (subst (λ ms. AreFine ms) all h)).0
 
 -- the cut of a document up to a place, where this rest begins: no item before it has a fault
 pub record FineTo (bytes rest : List ℕ) (place : ℕ) : Type 0 where
@@ -89,7 +89,7 @@ pub record FineTo (bytes rest : List ℕ) (place : ℕ) : Type 0 where
   pub pieces : List Piece
   pub cut : Cuts true (text_of bytes) pieces rest
   pub here : place + bytes_of rest ≡ length bytes
-  pub fine : AreFine (backward pieces)
+  pub fine : AreFine (meanings_backward pieces)
 
 -- ---- one more item of a cut
 
@@ -119,18 +119,18 @@ front_nil : (a b : List ℕ) → a ++ b ≡ [] → a ≡ []
 front_nil [] b e = refl
 front_nil (c ∷ cs) b e = absurd cc
 
-none_joined : (is_first : Bool) (more : List Piece) → AreItems is_first more → joined more ≡ [] → more ≡ []
+none_joined : (is_first : Bool) (more : List Piece) → AreItems is_first more → joined_texts more ≡ [] → more ≡ []
 none_joined is_first [] h e = refl
-none_joined is_first (p ∷ more) h e = absurd (item_some is_first p.text p.meaning h.0 (front_nil p.text (joined more) e))
+none_joined is_first (p ∷ more) h e = absurd (item_some is_first p.text p.meaning h.0 (front_nil p.text (joined_texts more) e))
 
 same_at : (bytes rest : List ℕ) (place : ℕ) (t : FineTo bytes rest place) (qs : List Piece) (s : List ℕ) → Cuts true (text_of bytes) qs s → place + bytes_of s ≡ length bytes → Compared true t.pieces qs rest s → (qs ≡ t.pieces) × (rest ≡ s)
 same_at bytes rest place t qs s c e (Behind more f g) =
-    let none : joined more ≡ [] = bytes_some (joined more) (omega (arith, t.here, e, ap bytes_of g, bytes_append (joined more) s)) in
+    let none : joined_texts more ≡ [] = bytes_some (joined_texts more) (omega (arith, t.here, e, ap bytes_of g, bytes_append (joined_texts more) s)) in
     let nil : more ≡ [] = none_joined (begins true t.pieces) more (items_behind true t.pieces more (subst (λ xs. AreItems true xs) f c.items)) none in
     (f ∙ ap (λ xs. t.pieces ++ xs) nil ∙ append-nil t.pieces, g ∙ ap (λ (x : List ℕ). x ++ s) none)
 same_at bytes rest place t qs s c e (Ahead p more f g i) =
     let some : 0 < bytes_of p.text = no_bytes p.text (item_some (begins true qs) p.text p.meaning i) in
-    absurd (omega (arith, t.here, e, some, ap bytes_of g, bytes_append (p.text ++ joined more) rest, bytes_append p.text (joined more)))
+    absurd (omega (arith, t.here, e, some, ap bytes_of g, bytes_append (p.text ++ joined_texts more) rest, bytes_append p.text (joined_texts more)))
 
 -- what stands at a place is the same in every cut
 pub at_place : (bytes rest : List ℕ) (place : ℕ) (t : FineTo bytes rest place) (qs : List Piece) (s : List ℕ) → Cuts true (text_of bytes) qs s → place + bytes_of s ≡ length bytes → (qs ≡ t.pieces) × (rest ≡ s)
@@ -138,7 +138,7 @@ at_place bytes rest place t qs s c e = same_at bytes rest place t qs s c e (comp
 
 -- where no item stands is not before the place
 stops_compared : (bytes rest : List ℕ) (place p : ℕ) (k : Bool) (t : FineTo bytes rest place) (st : StopsAt bytes p k) → Compared true t.pieces st.pieces rest st.rest → place ≤ p
-stops_compared bytes rest place p k t st (Behind more f g) = omega (arith, t.here, st.here, ap bytes_of g, bytes_append (joined more) st.rest)
+stops_compared bytes rest place p k t st (Behind more f g) = omega (arith, t.here, st.here, ap bytes_of g, bytes_append (joined_texts more) st.rest)
 stops_compared bytes rest place p k t st (Ahead q more f g i) = absurd (stops_early (begins true st.pieces) q more st.rest rest st.stops.none i g)
 
 stops_behind : (bytes rest : List ℕ) (place p : ℕ) (k : Bool) → FineTo bytes rest place → StopsAt bytes p k → place ≤ p
@@ -153,11 +153,11 @@ never true e h = absurd cc
 never false e h = absurd cc
 
 has_compared : (bytes rest : List ℕ) (place p : ℕ) (test : List Meaning → Meaning → Bool) (t : FineTo bytes rest place) → IsOfFaults test → (h : HasAt bytes p test) → BeforeItem (text_of bytes) h.pieces h.piece h.rest → Compared true t.pieces h.pieces rest (h.piece.text ++ h.rest) → place ≤ p
-has_compared bytes rest place p test t of h b (Behind more f g) = omega (arith, t.here, h.here, ap bytes_of g, bytes_append (joined more) (h.piece.text ++ h.rest))
+has_compared bytes rest place p test t of h b (Behind more f g) = omega (arith, t.here, h.here, ap bytes_of g, bytes_append (joined_texts more) (h.piece.text ++ h.rest))
 has_compared bytes rest place p test t of h b (Ahead q more f g i) =
-    let same = same_piece (begins true h.pieces) h.piece q h.rest (joined more ++ rest) b.is i (g ∙ append_assoc q.text (joined more) rest) in
+    let same = same_piece (begins true h.pieces) h.piece q h.rest (joined_texts more ++ rest) b.is i (g ∙ append_assoc q.text (joined_texts more) rest) in
     let fine = fine_at h.pieces h.piece more t.pieces (f ∙ ap (λ x. h.pieces ++ x ∷ more) (sym same.0)) t.fine in
-    absurd (never (test (backward h.pieces) h.piece.meaning) (of (backward h.pieces) h.piece.meaning fine) h.faulty)
+    absurd (never (test (meanings_backward h.pieces) h.piece.meaning) (of (meanings_backward h.pieces) h.piece.meaning fine) h.faulty)
 
 has_behind : (bytes rest : List ℕ) (place p : ℕ) (test : List Meaning → Meaning → Bool) → FineTo bytes rest place → IsOfFaults test → HasAt bytes p test → place ≤ p
 has_behind bytes rest place p test t of h =
@@ -184,7 +184,7 @@ pub record ItemAt (bytes rest : List ℕ) (place : ℕ) (t : FineTo bytes rest p
   pub is : item (begins true t.pieces) rest ≡ Some (m, after)
 
 -- a fault of an item here is one of this item
-item_has : (bytes rest : List ℕ) (place : ℕ) (t : FineTo bytes rest place) (m : Meaning) (test : List Meaning → Meaning → Bool) → ItemAt bytes rest place t m → HasAt bytes place test → test (backward t.pieces) m ≡ true
+item_has : (bytes rest : List ℕ) (place : ℕ) (t : FineTo bytes rest place) (m : Meaning) (test : List Meaning → Meaning → Bool) → ItemAt bytes rest place t m → HasAt bytes place test → test (meanings_backward t.pieces) m ≡ true
 item_has bytes rest place t m test i h =
     let b = before_item (text_of bytes) h.pieces h.piece h.rest h.cut in
     let same = at_place bytes rest place t h.pieces (h.piece.text ++ h.rest) b.cut h.here in
@@ -192,7 +192,7 @@ item_has bytes rest place t m test i h =
     ap (λ (x : List ℕ). item (begins true t.pieces) x) same.1 ∙ ap (λ ps. item (begins true ps) (h.piece.text ++ h.rest)) (sym same.0) ∙ item_goes_on (begins true h.pieces) h.piece.text h.rest h.piece.meaning b.is
     in
     let meant = same_answer m h.piece.meaning i.after h.rest (sym i.is ∙ there) in
-    ap (λ x. test (backward t.pieces) x) meant.0 ∙ ap (λ ps. test (backward ps) h.piece.meaning) (sym same.0) ∙ h.faulty
+    ap (λ x. test (meanings_backward t.pieces) x) meant.0 ∙ ap (λ ps. test (meanings_backward ps) h.piece.meaning) (sym same.0) ∙ h.faulty
 
 item_no_stop : (bytes rest : List ℕ) (place : ℕ) (k : Bool) (t : FineTo bytes rest place) (m : Meaning) → ItemAt bytes rest place t m → StopsAt bytes place k → ⊥
 item_no_stop bytes rest place k t m i st =
@@ -231,10 +231,10 @@ above_items bytes rest place t m (faults.NoSpace p) i e st = omega arith
 above_items bytes rest place t m (faults.SameAttribute p) i e st = omega arith
 
 -- the item does not have this fault
-cleared : (bytes rest : List ℕ) (place p : ℕ) (t : FineTo bytes rest place) (m : Meaning) (test : List Meaning → Meaning → Bool) → ItemAt bytes rest place t m → p ≡ place → test (backward t.pieces) m ≡ false → HasAt bytes p test → ⊥
-cleared bytes rest place p t m test i e clear st = never (test (backward t.pieces) m) clear (item_has bytes rest place t m test i (subst (λ n. HasAt bytes n test) e st))
+cleared : (bytes rest : List ℕ) (place p : ℕ) (t : FineTo bytes rest place) (m : Meaning) (test : List Meaning → Meaning → Bool) → ItemAt bytes rest place t m → p ≡ place → test (meanings_backward t.pieces) m ≡ false → HasAt bytes p test → ⊥
+cleared bytes rest place p t m test i e clear st = never (test (meanings_backward t.pieces) m) clear (item_has bytes rest place t m test i (subst (λ n. HasAt bytes n test) e st))
 
-above_unbalanced : (bytes rest : List ℕ) (place : ℕ) (t : FineTo bytes rest place) (m : Meaning) (other : TreeFault) → ItemAt bytes rest place t m → is_unbalanced (backward t.pieces) m ≡ false → byte_of other ≡ place → Stands bytes other → 3 ≤ rank_of other
+above_unbalanced : (bytes rest : List ℕ) (place : ℕ) (t : FineTo bytes rest place) (m : Meaning) (other : TreeFault) → ItemAt bytes rest place t m → is_unbalanced (meanings_backward t.pieces) m ≡ false → byte_of other ≡ place → Stands bytes other → 3 ≤ rank_of other
 above_unbalanced bytes rest place t m (faults.Unbalanced p) i c e (inl st) = absurd (cleared bytes rest place p t m is_unbalanced i e c st)
 above_unbalanced bytes rest place t m (faults.Unbalanced p) i c e (inr st) = absurd (item_no_end bytes rest place t m i (subst (λ n. EndsAt bytes n) e st))
 above_unbalanced bytes rest place t m (faults.TooDeep p) i c e st = omega arith
@@ -245,7 +245,7 @@ above_unbalanced bytes rest place t m (faults.NotUtf8 p) i c e st = absurd (st.0
 above_unbalanced bytes rest place t m (faults.NotItem p) i c e st = absurd (item_no_stop bytes rest place false t m i (subst (λ n. StopsAt bytes n false) e st))
 above_unbalanced bytes rest place t m (faults.Doctype p) i c e st = absurd (item_no_stop bytes rest place true t m i (subst (λ n. StopsAt bytes n true) e st))
 
-above_deep : (bytes rest : List ℕ) (place : ℕ) (t : FineTo bytes rest place) (m : Meaning) (other : TreeFault) → ItemAt bytes rest place t m → is_too_deep (backward t.pieces) m ≡ false → byte_of other ≡ place → Stands bytes other → 3 ≤ rank_of other → 4 ≤ rank_of other
+above_deep : (bytes rest : List ℕ) (place : ℕ) (t : FineTo bytes rest place) (m : Meaning) (other : TreeFault) → ItemAt bytes rest place t m → is_too_deep (meanings_backward t.pieces) m ≡ false → byte_of other ≡ place → Stands bytes other → 3 ≤ rank_of other → 4 ≤ rank_of other
 above_deep bytes rest place t m (faults.TooDeep p) i c e st h = absurd (cleared bytes rest place p t m is_too_deep i e c st)
 above_deep bytes rest place t m (faults.NoSpace p) i c e st h = omega arith
 above_deep bytes rest place t m (faults.SameAttribute p) i c e st h = omega arith
@@ -255,7 +255,7 @@ above_deep bytes rest place t m (faults.NotUtf8 p) i c e st h = absurd (omega (a
 above_deep bytes rest place t m (faults.NotItem p) i c e st h = absurd (omega (arith, h))
 above_deep bytes rest place t m (faults.Doctype p) i c e st h = absurd (omega (arith, h))
 
-above_space : (bytes rest : List ℕ) (place : ℕ) (t : FineTo bytes rest place) (m : Meaning) (other : TreeFault) → ItemAt bytes rest place t m → has_no_space (backward t.pieces) m ≡ false → byte_of other ≡ place → Stands bytes other → 4 ≤ rank_of other → 5 ≤ rank_of other
+above_space : (bytes rest : List ℕ) (place : ℕ) (t : FineTo bytes rest place) (m : Meaning) (other : TreeFault) → ItemAt bytes rest place t m → has_no_space (meanings_backward t.pieces) m ≡ false → byte_of other ≡ place → Stands bytes other → 4 ≤ rank_of other → 5 ≤ rank_of other
 above_space bytes rest place t m (faults.NoSpace p) i c e st h = absurd (cleared bytes rest place p t m has_no_space i e c st)
 above_space bytes rest place t m (faults.SameAttribute p) i c e st h = omega arith
 above_space bytes rest place t m (faults.TooDeep p) i c e st h = absurd (omega (arith, h))
@@ -285,7 +285,7 @@ pub first_doctype : (bytes rest : List ℕ) (place : ℕ) (t : FineTo bytes rest
 first_doctype bytes rest place t some none kind = first_at bytes rest place t (faults.Doctype place) refl (stopped bytes rest place t true some none kind) (λ other e st. above_none bytes other t.utf8 st)
 
 -- the item here has a fault
-has_here : (bytes rest : List ℕ) (place : ℕ) (t : FineTo bytes rest place) (m : Meaning) (test : List Meaning → Meaning → Bool) → ItemAt bytes rest place t m → test (backward t.pieces) m ≡ true → HasAt bytes place test
+has_here : (bytes rest : List ℕ) (place : ℕ) (t : FineTo bytes rest place) (m : Meaning) (test : List Meaning → Meaning → Bool) → ItemAt bytes rest place t m → test (meanings_backward t.pieces) m ≡ true → HasAt bytes place test
 has_here bytes rest place t m test i e =
     let p = item_piece (begins true t.pieces) rest i.after m i.is in
     record {
@@ -293,12 +293,12 @@ has_here bytes rest place t m test i e =
       pieces = t.pieces;
       piece = piece_of p.0 m;
       rest = i.after;
-      cut = record { items = items_more true t.pieces (piece_of p.0 m) t.cut.items p.2; whole = t.cut.whole ∙ ap (λ (r : List ℕ). joined t.pieces ++ r) p.1 ∙ sym (joined_more t.pieces p.0 m i.after) };
+      cut = record { items = items_more true t.pieces (piece_of p.0 m) t.cut.items p.2; whole = t.cut.whole ∙ ap (λ (r : List ℕ). joined_texts t.pieces ++ r) p.1 ∙ sym (joined_more t.pieces p.0 m i.after) };
       here = ap (λ (x : List ℕ). place + bytes_of x) (sym p.1) ∙ t.here;
       faulty = e;
     }
 
-pub first_refused : (bytes rest : List ℕ) (place : ℕ) (t : FineTo bytes rest place) (m : Meaning) (refusal : Refusal) → ItemAt bytes rest place t m → IsRefused (backward t.pieces) m refusal → IsRefusal bytes (refused_at refusal place)
+pub first_refused : (bytes rest : List ℕ) (place : ℕ) (t : FineTo bytes rest place) (m : Meaning) (refusal : Refusal) → ItemAt bytes rest place t m → IsRefused (meanings_backward t.pieces) m refusal → IsRefusal bytes (fault_at refusal place)
 first_refused bytes rest place t m refusals.Memory i r = tt
 first_refused bytes rest place t m refusals.Unbalanced i r =
     first_at bytes rest place t (faults.Unbalanced place) refl (inl (has_here bytes rest place t m is_unbalanced i r)) (λ other e st. above_items bytes rest place t m other i e st)
@@ -327,7 +327,7 @@ above_end bytes (faults.TooDeep p) u e st = omega arith
 above_end bytes (faults.NoSpace p) u e st = omega arith
 above_end bytes (faults.SameAttribute p) u e st = omega arith
 
-pub first_unfinished : (bytes : List ℕ) (t : FineTo bytes [] (length bytes)) → is_unfinished (backward t.pieces) ≡ true → IsFirstFault bytes (faults.Unbalanced (length bytes))
+pub first_unfinished : (bytes : List ℕ) (t : FineTo bytes [] (length bytes)) → is_unfinished (meanings_backward t.pieces) ≡ true → IsFirstFault bytes (faults.Unbalanced (length bytes))
 first_unfinished bytes t e =
     first_at bytes [] (length bytes) t (faults.Unbalanced (length bytes)) refl (inr (record { utf8 = t.utf8; pieces = t.pieces; cut = t.cut; here = refl; faulty = e }))
     (λ other same st. above_end bytes other t.utf8 same st)
@@ -338,12 +338,12 @@ no_item_behind bytes p test h st =
     let some : 0 < bytes_of st.piece.text = no_bytes st.piece.text (item_some (begins true st.pieces) st.piece.text st.piece.meaning b.is) in
     omega (arith, h, st.here, some, bytes_append st.piece.text st.rest)
 
-finished_end : (bytes : List ℕ) (t : FineTo bytes [] (length bytes)) → is_unfinished (backward t.pieces) ≡ false → (p : ℕ) → EndsAt bytes p → ⊥
+finished_end : (bytes : List ℕ) (t : FineTo bytes [] (length bytes)) → is_unfinished (meanings_backward t.pieces) ≡ false → (p : ℕ) → EndsAt bytes p → ⊥
 finished_end bytes t e p st =
     let same = at_place bytes [] (length bytes) t st.pieces [] st.cut (omega arith) in
-    never (is_unfinished (backward t.pieces)) e (ap (λ ps. is_unfinished (backward ps)) (sym same.0) ∙ st.faulty)
+    never (is_unfinished (meanings_backward t.pieces)) e (ap (λ ps. is_unfinished (meanings_backward ps)) (sym same.0) ∙ st.faulty)
 
-pub faultless_at_end : (bytes : List ℕ) (t : FineTo bytes [] (length bytes)) → is_unfinished (backward t.pieces) ≡ false → (fault : TreeFault) → Stands bytes fault → ⊥
+pub faultless_at_end : (bytes : List ℕ) (t : FineTo bytes [] (length bytes)) → is_unfinished (meanings_backward t.pieces) ≡ false → (fault : TreeFault) → Stands bytes fault → ⊥
 faultless_at_end bytes t e faults.Memory st = st
 faultless_at_end bytes t e (faults.NotUtf8 p) st = st.0 t.utf8
 faultless_at_end bytes t e (faults.NotItem p) st = no_stop_behind bytes p false (none_before bytes [] (length bytes) t (faults.NotItem p) st) st

@@ -3,9 +3,9 @@ use Rattle.std.proofs.Common.{◌≡◌, ℕ, zero, suc, ◌<◌, ◌≤◌, Lis
 use Rattle.std.specs.Prelude.{option_map, encode_utf8, encode_utf8_all, IsSome}
 use Rattle.std.proofs.lemmas.List.{length-append}
 use Rattle.std.proofs.lemmas.Str.{encodes-append}
-use Rattle.xc_elements.specs.Fronts.{Front, Turn, More, Last, followed_by, give, repeated, sequence}
-use Rattle.xc_elements.specs.Items.{value_turn, value_until}
-use Rattle.xc_elements.specs.Views.{value_at}
+use Rattle.xc_elements.specs.Fronts.{Front, Turn, More, Last, followed_by, give, sequence_within, sequence}
+use Rattle.xc_elements.specs.Items.{character_or_end, value_until}
+use Rattle.xc_elements.specs.Steps.Views.{value_at}
 use Rattle.xc_elements.proofs.FrontLaws.{found}
 use Rattle.xc_elements.proofs.SequenceLaws.{Turns, with_first, repeated_last, repeated_more, repeated_none}
 use Rattle.xc_elements.proofs.ReadLaws.{append-nil}
@@ -17,7 +17,7 @@ all_before so_far x = ((so_far ++ x.0.0, x.0.1), x.1)
 pub record Gathers {A B : Type 0} (turn : Front (Turn A B)) (text rest : List ℕ) (so_far : List A) : Type 0 where
   pub count : ℕ
   pub enough : length rest ≤ count
-  pub left : sequence turn text ≡ option_map (all_before so_far) (repeated turn count rest)
+  pub left : sequence turn text ≡ option_map (all_before so_far) (sequence_within turn count rest)
 
 nothing_before : {A B : Type 0} (o : Option ((List A × B) × List ℕ)) → o ≡ option_map (all_before []) o
 nothing_before None = refl
@@ -25,24 +25,24 @@ nothing_before (Some x) = refl
 
 pub gathers_none : {A B : Type 0} (turn : Front (Turn A B)) (text : List ℕ) → Gathers turn text text []
 unfolding sequence
-gathers_none turn text = record { count = length text; enough = omega arith; left = nothing_before (repeated turn (length text) text) }
+gathers_none turn text = record { count = length text; enough = omega arith; left = nothing_before (sequence_within turn (length text) text) }
 
 one_more_before : {A B : Type 0} (so_far : List A) (a : A) (o : Option ((List A × B) × List ℕ)) → option_map (all_before so_far) (option_map (with_first a) o) ≡ option_map (all_before (so_far ++ a ∷ [])) o
 one_more_before so_far a None = refl
 one_more_before so_far a (Some x) = ap (λ xs. Some ((xs, x.0.1), x.1)) (sym (append_assoc so_far (a ∷ []) x.0.0))
 
-more_gathered : {A B : Type 0} (turn : Front (Turn A B)) (text rest after : List ℕ) (so_far : List A) (a : A) (n : ℕ) → length after < length rest → found (More a) after ≡ turn rest → length rest ≤ n → sequence turn text ≡ option_map (all_before so_far) (repeated turn n rest) → Gathers turn text after (so_far ++ a ∷ [])
+more_gathered : {A B : Type 0} (turn : Front (Turn A B)) (text rest after : List ℕ) (so_far : List A) (a : A) (n : ℕ) → length after < length rest → found (More a) after ≡ turn rest → length rest ≤ n → sequence turn text ≡ option_map (all_before so_far) (sequence_within turn n rest) → Gathers turn text after (so_far ++ a ∷ [])
 more_gathered turn text rest after so_far a zero shorter is enough left = absurd (omega arith)
 more_gathered turn text rest after so_far a (suc n) shorter is enough left = record {
   count = n;
   enough = omega arith;
-  left = left ∙ ap (λ o. option_map (all_before so_far) o) (repeated_more turn n rest a after (sym is)) ∙ one_more_before so_far a (repeated turn n after);
+  left = left ∙ ap (λ o. option_map (all_before so_far) o) (repeated_more turn n rest a after (sym is)) ∙ one_more_before so_far a (sequence_within turn n after);
 }
 
 pub gathers_more : {A B : Type 0} (turn : Front (Turn A B)) (text rest after : List ℕ) (so_far : List A) (a : A) → Turns turn → found (More a) after ≡ turn rest → Gathers turn text rest so_far → Gathers turn text after (so_far ++ a ∷ [])
 gathers_more turn text rest after so_far a turns is t = more_gathered turn text rest after so_far a t.count (turns.some rest a after (sym is)) is t.enough t.left
 
-last_gathered : {A B : Type 0} (turn : Front (Turn A B)) (text rest after : List ℕ) (so_far : List A) (b : B) (n : ℕ) → 0 < length rest → found (Last b) after ≡ turn rest → length rest ≤ n → sequence turn text ≡ option_map (all_before so_far) (repeated turn n rest) → sequence turn text ≡ Some ((so_far, b), after)
+last_gathered : {A B : Type 0} (turn : Front (Turn A B)) (text rest after : List ℕ) (so_far : List A) (b : B) (n : ℕ) → 0 < length rest → found (Last b) after ≡ turn rest → length rest ≤ n → sequence turn text ≡ option_map (all_before so_far) (sequence_within turn n rest) → sequence turn text ≡ Some ((so_far, b), after)
 last_gathered turn text rest after so_far b zero some is enough left = absurd (omega arith)
 last_gathered turn text rest after so_far b (suc n) some is enough left =
     left ∙ ap (λ o. option_map (all_before so_far) o) (repeated_last turn n rest b after (sym is)) ∙ ap (λ xs. Some ((xs, b), after)) (append-nil so_far)
@@ -57,11 +57,11 @@ gathers_nowhere turn text rest so_far is t = t.left ∙ ap (λ o. option_map (al
 
 -- ---- the characters of a value
 
-pub value_of_turns : (mark : ℕ) (text rest value : List ℕ) → sequence (value_turn mark) text ≡ Some ((value, tt), rest) → value_at mark text ≡ value
+pub value_of_turns : (mark : ℕ) (text rest value : List ℕ) → sequence (character_or_end mark) text ≡ Some ((value, tt), rest) → value_at mark text ≡ value
 unfolding value_until followed_by give
 value_of_turns mark text rest value e = rw e refl
 
-pub no_value : (mark : ℕ) (text : List ℕ) → sequence (value_turn mark) text ≡ None → IsSome (value_until mark text) → ⊥
+pub no_value : (mark : ℕ) (text : List ℕ) → sequence (character_or_end mark) text ≡ None → IsSome (value_until mark text) → ⊥
 unfolding value_until followed_by
 no_value mark text e some = let wrong = rw e at some in absurd cc
 

@@ -7,9 +7,9 @@ use Rattle.xc_elements.specs.Items.{Name, Pair, Meaning, Declaration, Start, Emp
 use Rattle.xc_elements.specs.Steps.Kept.{Kept, with_text, none_kept, innermost_kept, AreBelow}
 use Rattle.xc_elements.specs.Namespaces.{Binding, Tag, tag_of, declarations, binding_of}
 use Rattle.xc_elements.specs.Elements.{begun, Open, open_at, open_behind, begun_inside, is_return, item_text, text_inside, innermost, nodes_from, node_at, declared_at, is_outside}
-use Rattle.xc_elements.specs.Steps.Reading.{AreOpen, ended, completed, IsKeptOf, HasNode, new_node}
+use Rattle.xc_elements.specs.Steps.Reading.{AreOpen, end_node, complete_nodes, IsKeptOf, HasNode, new_node}
 use Rattle.xc_elements.specs.declared.nodes.Node.{Node}
-use Rattle.xc_elements.proofs.CompletedLaws.{IsPlain, completed_plain, completed_start, completed_empty, completed_end, completed_before, length-ended, ended_last}
+use Rattle.xc_elements.proofs.CompletedLaws.{IsPlain, completed_plain, completed_start, completed_empty, completed_end, completed_before, length-end_node, ended_last}
 
 abbrev pub tags_of : List Open → List Tag
 tags_of os = map (λ o. o.tag) os
@@ -36,9 +36,9 @@ kept_plain item p opens new scope nodes r before e k = record {
   made = λ after.
       k.made (item ∷ after)
       ∙ ap (λ ns. ns ++ nodes_from before (item ∷ after)) (completed_plain item p r after (begun before) opens nodes)
-      ∙ ap (λ ns. completed zero (is_return item) after (begun before) (with_text (encode_utf8_all (item_text r item)) opens) nodes ++ ns) (p.nodes before after)
-      ∙ ap (λ ks. completed zero (is_return item) after (begun before) ks nodes ++ nodes_from (item ∷ before) after) (sym e)
-      ∙ ap (λ n. completed zero (is_return item) after n new nodes ++ nodes_from (item ∷ before) after) (sym (p.begins_none before));
+      ∙ ap (λ ns. complete_nodes zero (is_return item) after (begun before) (with_text (encode_utf8_all (item_text r item)) opens) nodes ++ ns) (p.nodes before after)
+      ∙ ap (λ ks. complete_nodes zero (is_return item) after (begun before) ks nodes ++ nodes_from (item ∷ before) after) (sym e)
+      ∙ ap (λ n. complete_nodes zero (is_return item) after n new nodes ++ nodes_from (item ∷ before) after) (sym (p.begins_none before));
 }
 
 with_none : (ks : List Kept) → with_text [] ks ≡ ks
@@ -117,7 +117,7 @@ declared_end k ks (o ∷ os) scope h e =
     ap (λ (bs : List Binding). drop (length scope - k.outside) bs) e ∙ drop_at own others (length scope - k.outside) long
 
 pub kept_end : (name : Name) (opens new : List Kept) (k : Kept) (scope new_scope : List Binding) (nodes new_nodes : List Node) (r : Bool) (before : List Meaning) →
-    opens ≡ k ∷ new → new_scope ≡ drop (length scope - k.outside) scope → new_nodes ≡ ended k.number (length nodes) k.text nodes →
+    opens ≡ k ∷ new → new_scope ≡ drop (length scope - k.outside) scope → new_nodes ≡ end_node k.number (length nodes) k.text nodes →
     IsKeptOf opens scope nodes r before → IsKeptOf new new_scope new_nodes false (End name ∷ before)
 kept_end name opens new k scope new_scope nodes new_nodes r before eo es en kept =
     let are : AreOpen (k ∷ new) (open_at before) = subst (λ ks. AreOpen ks (open_at before)) eo kept.are_open in
@@ -125,14 +125,14 @@ kept_end name opens new k scope new_scope nodes new_nodes r before eo es en kept
     record {
       are_open = subst (λ os. AreOpen new os) (sym out) (open_end k new (open_at before) are);
       declared = es ∙ declared_end k new (open_at before) scope are kept.declared ∙ ap (λ os. declarations (tags_of os)) (sym out);
-      count = ap length en ∙ length-ended k.number (length nodes) k.text nodes ∙ kept.count;
+      count = ap length en ∙ length-end_node k.number (length nodes) k.text nodes ∙ kept.count;
       last = refl;
       made = λ after.
           kept.made (End name ∷ after)
-          ∙ ap (λ ks. completed zero r (End name ∷ after) (begun before) ks nodes ++ nodes_from (End name ∷ before) after) eo
+          ∙ ap (λ ks. complete_nodes zero r (End name ∷ after) (begun before) ks nodes ++ nodes_from (End name ∷ before) after) eo
           ∙ ap (λ ns. ns ++ nodes_from (End name ∷ before) after) (completed_end name r after (begun before) k new nodes)
-          ∙ ap (λ n. completed zero false after (begun before) new (ended k.number n k.text nodes) ++ nodes_from (End name ∷ before) after) (sym kept.count)
-          ∙ ap (λ ns. completed zero false after (begun before) new ns ++ nodes_from (End name ∷ before) after) (sym en);
+          ∙ ap (λ n. complete_nodes zero false after (begun before) new (end_node k.number n k.text nodes) ++ nodes_from (End name ∷ before) after) (sym kept.count)
+          ∙ ap (λ ns. complete_nodes zero false after (begun before) new ns ++ nodes_from (End name ∷ before) after) (sym en);
     }
 
 -- ---- tags
@@ -205,13 +205,13 @@ kept_start name pairs opens new scope inside nodes new_nodes node r before eo es
           let text = text_inside zero false after in
           kept.made (Start name pairs ∷ after)
           ∙ ap (λ ns. ns ++ nodes_from before (Start name pairs ∷ after)) (completed_start name pairs zero r after (begun before) opens nodes)
-          ∙ sym (append_assoc (completed (suc zero) false after (suc (begun before)) opens nodes) (node_at before tag more text ∷ []) (nodes_from (Start name pairs ∷ before) after))
+          ∙ sym (append_assoc (complete_nodes (suc zero) false after (suc (begun before)) opens nodes) (node_at before tag more text ∷ []) (nodes_from (Start name pairs ∷ before) after))
           ∙ ap (λ ns. ns ++ nodes_from (Start name pairs ∷ before) after) (sym (completed_before (suc zero) false after (suc (begun before)) opens nodes (node_at before tag more text ∷ []) (kept_below opens scope nodes r before kept)))
-          ∙ ap (λ n. completed (suc zero) false after (suc (begun before)) opens (nodes ++ n ∷ []) ++ nodes_from (Start name pairs ∷ before) after) (sym (node_of_tag opens scope inside nodes r before tag node more text kept es h))
-          ∙ ap (λ ns. completed (suc zero) false after (suc (begun before)) opens ns ++ nodes_from (Start name pairs ∷ before) after) (sym (ended_last nodes node (length nodes) (suc (length nodes) + more) (encode_utf8_all text) refl))
-          ∙ ap (λ n. completed (suc zero) false after (suc (begun before)) opens (ended (length nodes) (suc n + more) (encode_utf8_all text) (nodes ++ node ∷ [])) ++ nodes_from (Start name pairs ∷ before) after) kept.count
-          ∙ ap (λ ks. completed zero false after (suc (begun before)) ks (nodes ++ node ∷ []) ++ nodes_from (Start name pairs ∷ before) after) (sym eo)
-          ∙ ap (λ ns. completed zero false after (suc (begun before)) new ns ++ nodes_from (Start name pairs ∷ before) after) (sym en);
+          ∙ ap (λ n. complete_nodes (suc zero) false after (suc (begun before)) opens (nodes ++ n ∷ []) ++ nodes_from (Start name pairs ∷ before) after) (sym (node_of_tag opens scope inside nodes r before tag node more text kept es h))
+          ∙ ap (λ ns. complete_nodes (suc zero) false after (suc (begun before)) opens ns ++ nodes_from (Start name pairs ∷ before) after) (sym (ended_last nodes node (length nodes) (suc (length nodes) + more) (encode_utf8_all text) refl))
+          ∙ ap (λ n. complete_nodes (suc zero) false after (suc (begun before)) opens (end_node (length nodes) (suc n + more) (encode_utf8_all text) (nodes ++ node ∷ [])) ++ nodes_from (Start name pairs ∷ before) after) kept.count
+          ∙ ap (λ ks. complete_nodes zero false after (suc (begun before)) ks (nodes ++ node ∷ []) ++ nodes_from (Start name pairs ∷ before) after) (sym eo)
+          ∙ ap (λ ns. complete_nodes zero false after (suc (begun before)) new ns ++ nodes_from (Start name pairs ∷ before) after) (sym en);
     }
 
 drop_own : (own others : List Binding) → drop (length (own ++ others) - length others) (own ++ others) ≡ others
@@ -231,8 +231,8 @@ kept_empty name pairs opens scope inside new_scope nodes new_nodes node r before
       made = λ after.
           kept.made (Empty name pairs ∷ after)
           ∙ ap (λ ns. ns ++ nodes_from before (Empty name pairs ∷ after)) (completed_empty name pairs r after (begun before) opens nodes)
-          ∙ sym (append_assoc (completed zero false after (suc (begun before)) opens nodes) (node_at before tag 0 [] ∷ []) (nodes_from (Empty name pairs ∷ before) after))
+          ∙ sym (append_assoc (complete_nodes zero false after (suc (begun before)) opens nodes) (node_at before tag 0 [] ∷ []) (nodes_from (Empty name pairs ∷ before) after))
           ∙ ap (λ ns. ns ++ nodes_from (Empty name pairs ∷ before) after) (sym (completed_before zero false after (suc (begun before)) opens nodes (node_at before tag 0 [] ∷ []) (kept_below opens scope nodes r before kept)))
-          ∙ ap (λ n. completed zero false after (suc (begun before)) opens (nodes ++ n ∷ []) ++ nodes_from (Empty name pairs ∷ before) after) (sym (node_of_tag opens scope inside nodes r before tag node 0 [] kept es h) ∙ same)
-          ∙ ap (λ ns. completed zero false after (suc (begun before)) opens ns ++ nodes_from (Empty name pairs ∷ before) after) (sym en);
+          ∙ ap (λ n. complete_nodes zero false after (suc (begun before)) opens (nodes ++ n ∷ []) ++ nodes_from (Empty name pairs ∷ before) after) (sym (node_of_tag opens scope inside nodes r before tag node 0 [] kept es h) ∙ same)
+          ∙ ap (λ ns. complete_nodes zero false after (suc (begun before)) opens ns ++ nodes_from (Empty name pairs ∷ before) after) (sym en);
     }

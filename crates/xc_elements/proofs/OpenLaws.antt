@@ -6,12 +6,12 @@ use Rattle.std.proofs.Math.Seq.{take-suc}
 use Rattle.std.proofs.lemmas.List.{take_all, length-take-le, set_at, append-nil}
 use Rattle.std.proofs.lemmas.Str.{encodes-append}
 use Rattle.xc_elements.specs.Elements.{line_character, section_text}
-use Rattle.xc_elements.specs.Steps.Kept.{Kept, kept, with_text}
+use Rattle.xc_elements.specs.Steps.Kept.{Kept, kept_of, with_text}
 use Rattle.xc_elements.specs.declared.opens.OpenElement.{OpenElement}
 use Rattle.xc_elements.proofs.StackLaws.{backward_more}
 
 abbrev pub opens_of : List OpenElement → List Kept
-opens_of elements = reverse (map kept elements)
+opens_of elements = reverse (map kept_of elements)
 
 -- a list by its last element
 last_of : {A : Type 0} (xs : List A) (n : ℕ) (x : A) → suc n ≡ length xs → x ≡ get_or xs n x → xs ≡ take n xs ++ x ∷ []
@@ -30,9 +30,9 @@ last_with xs n x t text e is same =
     let split = last_of xs n x e is in
     ap (λ (zs : List OpenElement). opens_of (set zs n (with_string x t))) split
     ∙ ap (λ (zs : List OpenElement). opens_of zs) (set_at (take n xs) x [] (with_string x t) n (length-take-le n xs (omega arith)))
-    ∙ backward_more kept (take n xs) (with_string x t)
-    ∙ ap (λ (bs : List ℕ). more_kept (kept x) bs ∷ opens_of (take n xs)) same
-    ∙ ap (λ ks. with_text text ks) (sym (ap (λ (zs : List OpenElement). opens_of zs) split ∙ backward_more kept (take n xs) x))
+    ∙ backward_more kept_of (take n xs) (with_string x t)
+    ∙ ap (λ (bs : List ℕ). more_kept (kept_of x) bs ∷ opens_of (take n xs)) same
+    ∙ ap (λ ks. with_text text ks) (sym (ap (λ (zs : List OpenElement). opens_of zs) split ∙ backward_more kept_of (take n xs) x))
 
 -- ---- texts in pieces
 

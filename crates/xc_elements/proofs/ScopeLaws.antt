@@ -8,7 +8,7 @@ use Rattle.std.proofs.lemmas.List.{map-append, reverse-append, reverse-reverse, 
 use Rattle.std.proofs.lemmas.Slice.Eq.{bytes_eq-Decides}
 use Rattle.xc_elements.specs.Namespaces.{Binding, nearest}
 use Rattle.xc_elements.specs.Steps.Bindings.{binding_view, place_of, place_in, AreLinked, IsIndexed}
-use Rattle.xc_elements.specs.Views.{lent}
+use Rattle.xc_elements.specs.Steps.Views.{lent_text}
 use Rattle.xc_elements.specs.declared.scope.BoundPrefix.{BoundPrefix}
 
 -- ---- texts that are the UTF-8 of their characters
@@ -40,22 +40,22 @@ by_first b bs prefix true e = rw e refl
 by_first b bs prefix false e = rw e refl
 
 -- the bindings that are kept, the nearest first, are seen one by one
-pub backward : (items : List BoundPrefix) → map binding_view (reverse items) ≡ reverse (map binding_view items)
-backward [] = refl
-backward (b ∷ items) =
+pub meanings_backward : (items : List BoundPrefix) → map binding_view (reverse items) ≡ reverse (map binding_view items)
+meanings_backward [] = refl
+meanings_backward (b ∷ items) =
     ap (map binding_view) (reverse-append (b ∷ []) items)
     ∙ map-append binding_view (reverse items) (b ∷ [])
-    ∙ ap (λ bs. bs ++ binding_view b ∷ []) (backward items)
+    ∙ ap (λ bs. bs ++ binding_view b ∷ []) (meanings_backward items)
     ∙ sym (reverse-append (binding_view b ∷ []) (map binding_view items))
 
-found_here : (b : BoundPrefix) (outer : List BoundPrefix) (prefix : List ℕ) (place : ℕ) → bytes_eq (lent b.prefix) (chars prefix) ≡ true → length outer ≡ place → IsAt (b ∷ outer) prefix place
+found_here : (b : BoundPrefix) (outer : List BoundPrefix) (prefix : List ℕ) (place : ℕ) → bytes_eq (lent_text b.prefix) (chars prefix) ≡ true → length outer ≡ place → IsAt (b ∷ outer) prefix place
 found_here b outer prefix place e here = record {
   within = omega (arith, here);
   is = λ d. by_first (binding_view b) (map binding_view outer) (chars prefix) true e
       ∙ ap (λ x. Some x.space) (sym (ap (λ bs. get_or bs place d) (reverse-append (b ∷ []) outer) ∙ get_or_push (reverse outer) b d place (length-reverse outer ∙ here)));
 }
 
-found_further : (b : BoundPrefix) (outer : List BoundPrefix) (prefix : List ℕ) (place : ℕ) → bytes_eq (lent b.prefix) (chars prefix) ≡ false → IsAt outer prefix place → IsAt (b ∷ outer) prefix place
+found_further : (b : BoundPrefix) (outer : List BoundPrefix) (prefix : List ℕ) (place : ℕ) → bytes_eq (lent_text b.prefix) (chars prefix) ≡ false → IsAt outer prefix place → IsAt (b ∷ outer) prefix place
 found_further b outer prefix place e further =
     let within : place < length (reverse outer) = omega (arith, length-reverse outer, further.within) in
     record {
@@ -94,19 +94,19 @@ module _ (places : BTreeMap (Bor (List ℕ)) ℕ) (items : List BoundPrefix) (in
   nearest_at place bound found is =
       ap (λ b. Some b.space) (is ∙ ap (λ bs. get_or bs place bound) (sym (reverse-reverse items)))
       ∙ sym ((found_at (reverse items) prefix place utf8 index.1 (sym (index.0 prefix) ∙ sym found)).is bound)
-      ∙ ap (λ bs. nearest bs (chars prefix)) (backward items)
+      ∙ ap (λ bs. nearest bs (chars prefix)) (meanings_backward items)
 
   pub nearest_nowhere : None ≡ place_in places prefix → None ≡ nearest (reverse (map binding_view items)) (chars prefix)
   nearest_nowhere none =
       sym (found_nowhere (reverse items) prefix utf8 index.1 (sym (index.0 prefix) ∙ sym none))
-      ∙ ap (λ bs. nearest bs (chars prefix)) (backward items)
+      ∙ ap (λ bs. nearest bs (chars prefix)) (meanings_backward items)
 
 -- ---- one binding more, or less
 
 -- a binding that keeps the place that its prefix had, and takes the next
 pub index_more : (places later : BTreeMap (Bor (List ℕ)) ℕ) (items kept more : List BoundPrefix) (bound : BoundPrefix) (place : ℕ)
     → more ≡ kept ++ bound ∷ [] → kept ≡ items → place ≡ length kept
-    → encode_utf8_all (lent bound.prefix) ≡ bound.prefix.now → bound.shadowed ≡ place_in places bound.prefix.now
+    → encode_utf8_all (lent_text bound.prefix) ≡ bound.prefix.now → bound.shadowed ≡ place_in places bound.prefix.now
     → ((prefix : List ℕ) → place_in later prefix ≡ cond (bytes_eq bound.prefix.now prefix) (Some place) (place_in places prefix))
     → IsIndexed places items → IsIndexed later more
 index_more places later items kept more bound place grown same here utf8 shadowed updates index =

@@ -2,7 +2,7 @@
 use Rattle.std.proofs.Common.{◌≡◌, ℕ, zero, suc, ◌+◌, ◌<◌, ◌≤◌, Bool, true, false, cond, List, [], ◌∷◌, ◌++◌, length, Option, Some, None, refl, sym, ap, ◌∙◌, append_assoc, arith}
 use Rattle.std.specs.Prelude.{option_map}
 use Rattle.std.proofs.lemmas.List.{length-append}
-use Rattle.xc_elements.specs.Fronts.{Front, go_on, followed_by, give, refuse, one, by_next, past, Turn, More, Last, repeated, sequence}
+use Rattle.xc_elements.specs.Fronts.{Front, go_on, followed_by, give, refuse, one, by_next, past, Turn, More, Last, sequence_within, sequence}
 use Rattle.xc_elements.proofs.FrontLaws.{found, same_answer, same_behind, split, mapped, Peeked, Freed, Ended, Peeks, Ends, peeks_from_ends, peeks_then_peeks, ends_shorter, one_ends, give_frees}
 
 -- what a turn takes: a character at least, and the last turn ends
@@ -21,8 +21,8 @@ turns_from_ends {turn = turn} h = record {
 abbrev pub with_first : {A B : Type 0} → A → (List A × B) × List ℕ → (List A × B) × List ℕ
 with_first a x = ((a ∷ x.0.0, x.0.1), x.1)
 
-pub repeated_last : {A B : Type 0} (turn : Front (Turn A B)) (n : ℕ) (text : List ℕ) (b : B) (rest : List ℕ) → turn text ≡ Some (Last b, rest) → repeated turn (suc n) text ≡ Some (([], b), rest)
-unfolding repeated followed_by give
+pub repeated_last : {A B : Type 0} (turn : Front (Turn A B)) (n : ℕ) (text : List ℕ) (b : B) (rest : List ℕ) → turn text ≡ Some (Last b, rest) → sequence_within turn (suc n) text ≡ Some (([], b), rest)
+unfolding sequence_within followed_by give
 repeated_last turn n text b rest e = rw e refl
 
 first_and_others : {A B : Type 0} (a : A) (o : Option ((List A × B) × List ℕ)) → go_on o (λ x. give (a ∷ x.0, x.1)) ≡ option_map (with_first a) o
@@ -30,12 +30,12 @@ unfolding give
 first_and_others a None = refl
 first_and_others a (Some x) = refl
 
-pub repeated_more : {A B : Type 0} (turn : Front (Turn A B)) (n : ℕ) (text : List ℕ) (a : A) (rest : List ℕ) → turn text ≡ Some (More a, rest) → repeated turn (suc n) text ≡ option_map (with_first a) (repeated turn n rest)
-unfolding repeated followed_by give
-repeated_more turn n text a rest e = rw e (first_and_others a (repeated turn n rest))
+pub repeated_more : {A B : Type 0} (turn : Front (Turn A B)) (n : ℕ) (text : List ℕ) (a : A) (rest : List ℕ) → turn text ≡ Some (More a, rest) → sequence_within turn (suc n) text ≡ option_map (with_first a) (sequence_within turn n rest)
+unfolding sequence_within followed_by give
+repeated_more turn n text a rest e = rw e (first_and_others a (sequence_within turn n rest))
 
-pub repeated_none : {A B : Type 0} (turn : Front (Turn A B)) (n : ℕ) (text : List ℕ) → turn text ≡ None → repeated turn n text ≡ None
-unfolding repeated followed_by refuse
+pub repeated_none : {A B : Type 0} (turn : Front (Turn A B)) (n : ℕ) (text : List ℕ) → turn text ≡ None → sequence_within turn n text ≡ None
+unfolding sequence_within followed_by refuse
 repeated_none turn zero text e = refl
 repeated_none turn (suc n) text e = rw e refl
 
@@ -44,7 +44,7 @@ pub record Repeated {A B : Type 0} (turn : Front (Turn A B)) (text : List ℕ) (
   pub piece : List ℕ
   pub some : 0 < length piece
   pub whole : text ≡ piece ++ rest
-  pub again : (n : ℕ) (more : List ℕ) → length piece ≤ n → repeated turn n (piece ++ more) ≡ Some (x, more)
+  pub again : (n : ℕ) (more : List ℕ) → length piece ≤ n → sequence_within turn n (piece ++ more) ≡ Some (x, more)
 
 module _ {A B : Type 0} (turn : Front (Turn A B)) (turns : Turns turn) where
   last_taken : (text : List ℕ) (b : B) (after : List ℕ) (x : List A × B) (rest : List ℕ) → turn text ≡ Some (Last b, after) → found ([], b) after ≡ Some (x, rest) → Repeated turn text x rest
@@ -58,18 +58,18 @@ module _ {A B : Type 0} (turn : Front (Turn A B)) (turns : Turns turn) where
         again = λ n more le. at_count t.piece t.some n more le (t.again more) ∙ ap (λ (y : List A × B). Some (y, more)) same.0;
       }
     where
-      at_count : (piece : List ℕ) → 0 < length piece → (n : ℕ) (more : List ℕ) → length piece ≤ n → turn (piece ++ more) ≡ Some (Last b, more) → repeated turn n (piece ++ more) ≡ Some (([], b), more)
+      at_count : (piece : List ℕ) → 0 < length piece → (n : ℕ) (more : List ℕ) → length piece ≤ n → turn (piece ++ more) ≡ Some (Last b, more) → sequence_within turn n (piece ++ more) ≡ Some (([], b), more)
       at_count piece some zero more le f = absurd (omega arith)
       at_count piece some (suc n) more le f = repeated_last turn n (piece ++ more) b more f
 
-  more_again : (n : ℕ) (a : A) (front piece more : List ℕ) (y : List A × B) → length front + length piece ≤ n → 0 < length front → turn (front ++ (piece ++ more)) ≡ Some (More a, piece ++ more) → ((m : ℕ) → length piece ≤ m → repeated turn m (piece ++ more) ≡ Some (y, more)) → repeated turn n (front ++ (piece ++ more)) ≡ Some ((a ∷ y.0, y.1), more)
+  more_again : (n : ℕ) (a : A) (front piece more : List ℕ) (y : List A × B) → length front + length piece ≤ n → 0 < length front → turn (front ++ (piece ++ more)) ≡ Some (More a, piece ++ more) → ((m : ℕ) → length piece ≤ m → sequence_within turn m (piece ++ more) ≡ Some (y, more)) → sequence_within turn n (front ++ (piece ++ more)) ≡ Some ((a ∷ y.0, y.1), more)
   more_again zero a front piece more y le some is others = absurd (omega arith)
   more_again (suc n) a front piece more y le some is others =
       repeated_more turn n (front ++ (piece ++ more)) a (piece ++ more) is ∙ rw (others n (omega arith)) refl
 
-  more_taken : (n : ℕ) → ((text : List ℕ) (x : List A × B) (rest : List ℕ) → repeated turn n text ≡ Some (x, rest) → Repeated turn text x rest) → (text : List ℕ) (a : A) (after : List ℕ) (x : List A × B) (rest : List ℕ) → turn text ≡ Some (More a, after) → option_map (with_first a) (repeated turn n after) ≡ Some (x, rest) → Repeated turn text x rest
+  more_taken : (n : ℕ) → ((text : List ℕ) (x : List A × B) (rest : List ℕ) → sequence_within turn n text ≡ Some (x, rest) → Repeated turn text x rest) → (text : List ℕ) (a : A) (after : List ℕ) (x : List A × B) (rest : List ℕ) → turn text ≡ Some (More a, after) → option_map (with_first a) (sequence_within turn n after) ≡ Some (x, rest) → Repeated turn text x rest
   more_taken n earlier text a after x rest is e =
-      let m = mapped (with_first a) (repeated turn n after) (x, rest) e in
+      let m = mapped (with_first a) (sequence_within turn n after) (x, rest) e in
       let y = m.0 in
       let front = turns.more text a after is in
       let t = earlier after y.0 y.1 m.1 in
@@ -85,16 +85,16 @@ module _ {A B : Type 0} (turn : Front (Turn A B)) (turns : Turns turn) where
             ∙ ap (λ (z : (List A × B) × List ℕ). Some (z.0, more)) m.2);
       }
 
-  turn_taken : (n : ℕ) → ((text : List ℕ) (x : List A × B) (rest : List ℕ) → repeated turn n text ≡ Some (x, rest) → Repeated turn text x rest) → (text : List ℕ) (t : Turn A B) (after : List ℕ) (x : List A × B) (rest : List ℕ) → turn text ≡ Some (t, after) → repeated turn (suc n) text ≡ Some (x, rest) → Repeated turn text x rest
+  turn_taken : (n : ℕ) → ((text : List ℕ) (x : List A × B) (rest : List ℕ) → sequence_within turn n text ≡ Some (x, rest) → Repeated turn text x rest) → (text : List ℕ) (t : Turn A B) (after : List ℕ) (x : List A × B) (rest : List ℕ) → turn text ≡ Some (t, after) → sequence_within turn (suc n) text ≡ Some (x, rest) → Repeated turn text x rest
   turn_taken n earlier text (Last b) after x rest is e = last_taken text b after x rest is (sym (repeated_last turn n text b after is) ∙ e)
   turn_taken n earlier text (More a) after x rest is e = more_taken n earlier text a after x rest is (sym (repeated_more turn n text a after is) ∙ e)
 
-  answer_taken : (n : ℕ) → ((text : List ℕ) (x : List A × B) (rest : List ℕ) → repeated turn n text ≡ Some (x, rest) → Repeated turn text x rest) → (text : List ℕ) (o : Option (Turn A B × List ℕ)) (x : List A × B) (rest : List ℕ) → turn text ≡ o → repeated turn (suc n) text ≡ Some (x, rest) → Repeated turn text x rest
+  answer_taken : (n : ℕ) → ((text : List ℕ) (x : List A × B) (rest : List ℕ) → sequence_within turn n text ≡ Some (x, rest) → Repeated turn text x rest) → (text : List ℕ) (o : Option (Turn A B × List ℕ)) (x : List A × B) (rest : List ℕ) → turn text ≡ o → sequence_within turn (suc n) text ≡ Some (x, rest) → Repeated turn text x rest
   answer_taken n earlier text None x rest is e = absurd (let no = repeated_none turn (suc n) text is in cc)
   answer_taken n earlier text (Some y) x rest is e = turn_taken n earlier text y.0 y.1 x rest is e
 
-  pub repeated_taken : (n : ℕ) (text : List ℕ) (x : List A × B) (rest : List ℕ) → repeated turn n text ≡ Some (x, rest) → Repeated turn text x rest
-  unfolding repeated refuse
+  pub repeated_taken : (n : ℕ) (text : List ℕ) (x : List A × B) (rest : List ℕ) → sequence_within turn n text ≡ Some (x, rest) → Repeated turn text x rest
+  unfolding sequence_within refuse
   repeated_taken zero text x rest e = absurd cc
   repeated_taken (suc n) text x rest e = answer_taken n (repeated_taken n) text (turn text) x rest refl e
 

@@ -33,8 +33,8 @@ part_before text rest part front t r p is e =
     let bytes = bytes_before text rest front t r e in
     let len : length (encode_utf8_all front) ≡ length text - length rest = omega (arith, ap length bytes, length-append (encode_utf8_all front) rest) in
     let taken : part ≡ encode_utf8_all front = is ∙ ap (λ (bs : List ℕ). take (length text - length rest) bs) bytes ∙ take_at (encode_utf8_all front) rest (length text - length rest) len in
-    let joined : part ++ rest ≡ text = ap (λ (bs : List ℕ). bs ++ rest) taken ∙ sym bytes in
-    append_cancel_right (chars part) front (chars rest) (sym (chars-append part rest p) ∙ ap chars joined ∙ e)
+    let joined_texts : part ++ rest ≡ text = ap (λ (bs : List ℕ). bs ++ rest) taken ∙ sym bytes in
+    append_cancel_right (chars part) front (chars rest) (sym (chars-append part rest p) ∙ ap chars joined_texts ∙ e)
 
 pub take_of_range : (xs : List ℕ) (n : ℕ) → slice_range xs 0 n ≡ take n xs
 take_of_range xs n = grind arith

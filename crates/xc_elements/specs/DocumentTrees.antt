@@ -16,8 +16,8 @@ abbrev pub meanings : List Piece → List Meaning
 meanings pieces = map (λ p. p.meaning) pieces
 
 -- the same, told from the last to the first
-abbrev pub backward : List Piece → List Meaning
-backward pieces = reverse (meanings pieces)
+abbrev pub meanings_backward : List Piece → List Meaning
+meanings_backward pieces = reverse (meanings pieces)
 
 -- ---- faults
 
@@ -29,7 +29,7 @@ pub record HasAt (bytes : List ℕ) (place : ℕ) (fault : List Meaning → Mean
   pub rest : List ℕ
   pub cut : Cuts true (text_of bytes) (pieces ++ piece ∷ []) rest
   pub here : place + bytes_of (piece.text ++ rest) ≡ length bytes
-  pub faulty : IsTrue (fault (backward pieces) piece.meaning)
+  pub faulty : IsTrue (fault (meanings_backward pieces) piece.meaning)
 
 -- the bytes are UTF-8 and made of items, and at their end an element is open, or there was none
 pub record EndsAt (bytes : List ℕ) (place : ℕ) : Type 0 where
@@ -37,7 +37,7 @@ pub record EndsAt (bytes : List ℕ) (place : ℕ) : Type 0 where
   pub pieces : List Piece
   pub cut : Cuts true (text_of bytes) pieces []
   pub here : place ≡ length bytes
-  pub faulty : IsTrue (is_unfinished (backward pieces))
+  pub faulty : IsTrue (is_unfinished (meanings_backward pieces))
 
 -- the fault stands in the bytes
 abbrev pub Stands : List ℕ → TreeFault → Type 0

@@ -1,11 +1,8 @@
 -- Documents as lists of items, and the places at which they go wrong.
 use Rattle.std.specs.Prelude.{◌≡◌, ◌≢◌, ℕ, ◌+◌, ◌==◌, Bool, true, false, List, [], ◌∷◌, ◌++◌, length, Option, Some, None, encode_utf8_all, if◌then◌else◌}
 use Rattle.std.specs.Str.{chars, IsUtf8}
-use Rattle.std.specs.Str.Lossy.{utf8_valid_len}
 use Rattle.xc_elements.specs.Fronts.{one}
 use Rattle.xc_elements.specs.Items.{Meaning, item, begins_doctype}
-use Rattle.xc_elements.specs.declared.fault.ItemFault.{ItemFault}
-use Rattle.xc_elements.specs.declared.fault.ItemFault.TheVariants.{NotUtf8, NotItem, Doctype}
 
 -- ---- the cut into items
 
@@ -20,14 +17,14 @@ AreItems is_first [] = Unit {0}
 AreItems is_first (p ∷ ps) = (item is_first p.text ≡ Some (p.meaning, [])) × AreItems false ps
 
 -- the texts of the pieces, joined
-abbrev pub joined : List Piece → List ℕ
-joined [] = []
-joined (p ∷ ps) = p.text ++ joined ps
+abbrev pub joined_texts : List Piece → List ℕ
+joined_texts [] = []
+joined_texts (p ∷ ps) = p.text ++ joined_texts ps
 
 -- the text begins with these items, and this rest follows
 pub record Cuts (is_first : Bool) (text : List ℕ) (pieces : List Piece) (rest : List ℕ) : Type 0 where
   pub items : AreItems is_first pieces
-  pub whole : text ≡ joined pieces ++ rest
+  pub whole : text ≡ joined_texts pieces ++ rest
 
 -- whether what follows these pieces is still the first of a document
 abbrev pub begins : Bool → List Piece → Bool
@@ -48,10 +45,6 @@ OneFault = (is_first : Bool) (text : List ℕ) (ps qs : List Piece) (r s : List 
 abbrev pub bytes_of : List ℕ → ℕ
 bytes_of text = length (encode_utf8_all text)
 
--- the fault of a place at which a text stands that begins with no item
-abbrev pub fault_at : ℕ → List ℕ → ItemFault
-fault_at place text = if begins_doctype text then Doctype place else NotItem place
-
 -- a text by its first character, which is left out if it is a byte order mark
 abbrev pub behind_mark : Option (ℕ × List ℕ) → List ℕ → List ℕ
 behind_mark None text = text
@@ -64,10 +57,6 @@ without_mark text = behind_mark (one text) text
 -- the characters of a document's bytes, without a byte order mark at their start
 abbrev pub text_of : List ℕ → List ℕ
 text_of bytes = without_mark (chars bytes)
-
--- the bytes are UTF-8, and their text is made of items
-abbrev pub IsMadeOfItems : List ℕ → Type 0
-IsMadeOfItems bytes = IsUtf8 bytes × ((pieces : List Piece) × Cuts true (text_of bytes) pieces [])
 
 -- behind these items no item stands, and something does
 pub record Stops (text : List ℕ) (pieces : List Piece) (rest : List ℕ) : Type 0 where
@@ -83,9 +72,3 @@ pub record StopsAt (bytes : List ℕ) (place : ℕ) (is_doctype : Bool) : Type 0
   pub stops : Stops (text_of bytes) pieces rest
   pub here : place + bytes_of rest ≡ length bytes
   pub kind : begins_doctype rest ≡ is_doctype
-
--- the fault stands in the bytes
-abbrev pub IsFault : List ℕ → ItemFault → Type 0
-IsFault bytes (NotUtf8 place) = ¬ (IsUtf8 bytes) × (place ≡ utf8_valid_len bytes)
-IsFault bytes (NotItem place) = StopsAt bytes place false
-IsFault bytes (Doctype place) = StopsAt bytes place true

@@ -29,11 +29,11 @@ pub record Open : Type 0 where
 
 -- the elements that are open behind items, which are told from the last to the first, the innermost first: those whose start tag no end tag behind it ends; so many start tags are ended by what stands behind the items
 abbrev pub open_behind : ℕ → List Meaning → List Open
-open_behind ended [] = []
-open_behind ended (End name ∷ before) = open_behind (suc ended) before
+open_behind end_node [] = []
+open_behind end_node (End name ∷ before) = open_behind (suc end_node) before
 open_behind zero (Start name pairs ∷ before) = record { number = begun before; tag = tag_of name pairs } ∷ open_behind zero before
-open_behind (suc ended) (Start name pairs ∷ before) = open_behind ended before
-open_behind ended (item ∷ before) = open_behind ended before
+open_behind (suc end_node) (Start name pairs ∷ before) = open_behind end_node before
+open_behind end_node (item ∷ before) = open_behind end_node before
 
 -- the elements that are open at a place, of which the items before it are told from the last to the first
 abbrev pub open_at : List Meaning → List Open

@@ -90,13 +90,13 @@ after_turn others (Last b) = give ([], b)
 after_turn others (More a) = followed_by others (λ x. give (a ∷ x.0, x.1))
 
 -- a sequence of fewer than so many turns, with what ends it
-unfoldable pub repeated : {A B : Type 0} → Front (Turn A B) → ℕ → Front (List A × B)
-repeated turn zero = refuse
-repeated turn (suc n) = followed_by turn (after_turn (repeated turn n))
+unfoldable pub sequence_within : {A B : Type 0} → Front (Turn A B) → ℕ → Front (List A × B)
+sequence_within turn zero = refuse
+sequence_within turn (suc n) = followed_by turn (after_turn (sequence_within turn n))
 
 -- a sequence, with what ends it: each turn has a character of its own, so no text has more turns than characters
 unfoldable pub sequence : {A B : Type 0} → Front (Turn A B) → Front (List A × B)
-sequence turn text = repeated turn (length text) text
+sequence turn text = sequence_within turn (length text) text
 
 -- what ends a sequence, and the text that follows it
 abbrev pub ending : {A B : Type 0} → (List A × B) × List ℕ → B × List ℕ

@@ -51,18 +51,18 @@ unfoldable pub plain_name : Front (List ℕ)
 plain_name = by_next (λ c. if is_name_start c then run is_name_char else refuse)
 
 -- a name that has no prefix
-abbrev pub unprefixed : List ℕ → Name
-unprefixed local = record { prefix = []; local = local }
+abbrev pub unprefixed_name : List ℕ → Name
+unprefixed_name local = record { prefix = []; local = local }
 
 -- a name with a prefix
-abbrev pub prefixed : List ℕ → List ℕ → Name
-prefixed prefix local = record { prefix = prefix; local = local }
+abbrev pub prefixed_name : List ℕ → List ℕ → Name
+prefixed_name prefix local = record { prefix = prefix; local = local }
 
 -- a name of a tag or an attribute: `QName` of Namespaces in XML 1.0, section 4
 unfoldable pub qualified_name : Front Name
 qualified_name = do
   first ← plain_name
-  by_next (λ c. if c == 58 then past (plain_name >>= λ local. give (prefixed first local)) else give (unprefixed first))
+  by_next (λ c. if c == 58 then past (plain_name >>= λ local. give (prefixed_name first local)) else give (unprefixed_name first))
 
 -- ---- references, behind their ampersand
 
@@ -103,8 +103,8 @@ reference = up_to (codes ";") >>= λ name. give_some (referent name)
 -- ---- attributes
 
 -- an equals sign with white space around it
-unfoldable pub equals : Front Unit
-equals = run is_space >> exactly (codes "=") >> run is_space >> give tt
+unfoldable pub equals_sign : Front Unit
+equals_sign = run is_space >> exactly (codes "=") >> run is_space >> give tt
 
 -- a quotation mark or an apostrophe
 unfoldable pub quote : Front ℕ
@@ -115,8 +115,8 @@ unfoldable pub line_end : Front (Turn ℕ Unit)
 line_end = by_next (λ c. if c == 10 then past (give (More 32)) else give (More 32))
 
 -- what a character of a value stands for, or the end of the value at its quote
-abbrev pub value_turn_at : ℕ → ℕ → Front (Turn ℕ Unit)
-value_turn_at mark c =
+abbrev pub character_or_end_by : ℕ → ℕ → Front (Turn ℕ Unit)
+character_or_end_by mark c =
     if c == mark then give (Last tt)
     else if c == 38 then (reference >>= λ r. give (More r))
     else if c == 13 then line_end
@@ -125,18 +125,18 @@ value_turn_at mark c =
     else refuse
 
 -- the same of the first character of a text: XML 1.0, section 3.3.3
-unfoldable pub value_turn : ℕ → Front (Turn ℕ Unit)
-value_turn mark = one >>= value_turn_at mark
+unfoldable pub character_or_end : ℕ → Front (Turn ℕ Unit)
+character_or_end mark = one >>= character_or_end_by mark
 
 -- the value up to its quote, as XML 1.0 normalizes it: sections 2.11 and 3.3.3
 unfoldable pub value_until : ℕ → Front (List ℕ)
-value_until mark = sequence (value_turn mark) >>= λ x. give x.0
+value_until mark = sequence (character_or_end mark) >>= λ x. give x.0
 
 -- a name, an equals sign and a quoted value: XML 1.0, section 3.1
 unfoldable pub attribute : Front Pair
 attribute = do
   name ← qualified_name
-  equals
+  equals_sign
   mark ← quote
   value ← value_until mark
   give (record { name = name; value = value })
@@ -144,20 +144,20 @@ attribute = do
 -- ---- tags
 
 -- an attribute with white space before it, or the end of the tag, which says whether its element is empty
-abbrev pub tag_turn_at : List ℕ → ℕ → Front (Turn Pair Bool)
-tag_turn_at spaces c =
+abbrev pub attribute_or_end_by : List ℕ → ℕ → Front (Turn Pair Bool)
+attribute_or_end_by spaces c =
     if c == 62 then past (give (Last false))
     else if c == 47 then past (exactly (codes ">") >> give (Last true))
     else if is_nil spaces then refuse
     else (attribute >>= λ a. give (More a))
 
 -- what stands next in a tag: white space and an attribute, or its end: XML 1.0, section 3.1
-unfoldable pub tag_turn : Front (Turn Pair Bool)
-tag_turn = run is_space >>= λ spaces. by_next (tag_turn_at spaces)
+unfoldable pub attribute_or_end : Front (Turn Pair Bool)
+attribute_or_end = run is_space >>= λ spaces. by_next (attribute_or_end_by spaces)
 
 -- the attributes of a tag, behind its name, and whether its element is empty
 unfoldable pub tag_rest : Front (List Pair × Bool)
-tag_rest = sequence tag_turn
+tag_rest = sequence attribute_or_end
 
 -- a start tag or an empty tag, behind its `<`
 unfoldable pub tag : Front Meaning
@@ -192,26 +192,26 @@ is_inside mark c = is_character c && not (c == mark)
 unfoldable pub part : Front Unit
 part = do
   name ← plain_name
-  equals
+  equals_sign
   mark ← quote
   value ← run (is_inside mark)
   exactly (mark ∷ [])
   if may_declare name value then give tt else refuse
 
 -- a part with white space before it, or the end
-abbrev pub part_turn_at : List ℕ → ℕ → Front (Turn Unit Unit)
-part_turn_at spaces c =
+abbrev pub part_or_end_by : List ℕ → ℕ → Front (Turn Unit Unit)
+part_or_end_by spaces c =
     if c == 63 then past (exactly (codes ">") >> give (Last tt))
     else if is_nil spaces then refuse
     else (part >> give (More tt))
 
 -- what stands next in a declaration: white space and a part, or its end: XML 1.0, section 2.8
-unfoldable pub part_turn : Front (Turn Unit Unit)
-part_turn = run is_space >>= λ spaces. by_next (part_turn_at spaces)
+unfoldable pub part_or_end : Front (Turn Unit Unit)
+part_or_end = run is_space >>= λ spaces. by_next (part_or_end_by spaces)
 
 -- the parts of a declaration, up to its end: XML 1.0, section 2.8
 unfoldable pub declaration : Front Meaning
-declaration = sequence part_turn >> give Declaration
+declaration = sequence part_or_end >> give Declaration
 
 -- ---- other items
 

@@ -1,13 +1,11 @@
 pub mod Fronts
 pub mod Items
-pub mod Views
 pub mod Documents
 pub mod Trees
 pub mod Declarations
 pub mod Scopes
 pub mod Namespaces
 pub mod Elements
-pub mod Faults
 pub mod DocumentTrees
 pub mod Codes
 pub mod Grammar

@@ -19,12 +19,12 @@ pub record Tag : Type 0 where
   pub attributes : List Given
 
 -- an attribute as it is written, with its value in bytes
-abbrev pub given : Pair → Given
-given pair = record { name = pair.name; value = encode_utf8_all pair.value }
+abbrev pub given_of : Pair → Given
+given_of pair = record { name = pair.name; value = encode_utf8_all pair.value }
 
 -- the tag of a name and its attributes
 abbrev pub tag_of : Name → List Pair → Tag
-tag_of name pairs = record { name = name; attributes = map given pairs }
+tag_of name pairs = record { name = name; attributes = map given_of pairs }
 
 -- ---- declarations
 

@@ -2,9 +2,8 @@
 ghost use Rattle.std.specs.Prelude.{◌≡◌, IfOk, IfSome, encode_utf8_all, option_map};
 ghost use Rattle.std.specs.Str.{chars};
 ghost use Rattle.xc_elements.specs.Fronts.{sequence, ending};
-ghost use Rattle.xc_elements.specs.Items.{equals, quote, line_end, value_turn, attribute};
-ghost use Rattle.xc_elements.specs.Views.{at_front, value_view, attribute_view, IsReadable};
-ghost use Rattle.xc_elements.specs.Steps.Views.{behind, value_turn_view};
+ghost use Rattle.xc_elements.specs.Items.{equals_sign, quote, line_end, character_or_end, attribute};
+ghost use Rattle.xc_elements.specs.Steps.Views.{at_front, value_view, attribute_view, IsReadable, behind, character_or_end_view};
 
 use crate::names::{QualifiedName, qualified_name};
 use crate::references::reference;
@@ -15,23 +14,23 @@ use xc_lists::Text;
 
 /// The value of an attribute as it is written.
 #[derive(Clone, Copy, Debug, PartialEq, Eq)]
-pub struct WrittenValue<'a> {
+pub(crate) struct WrittenValue<'a> {
     /// The quote that ends the value.
-    pub mark: char,
+    pub(crate) mark: char,
     /// The document from the value's first character on.
-    pub text: &'a str,
+    pub(crate) text: &'a str,
 }
 
 impl<'a> WrittenValue<'a> {
     /// The value, with the character of each reference, and a space for each end of a line and each tab that are written as
     /// characters.
-    pub fn decoded(&self, alloc: Global) -> Result<Text, AllocError>
+    pub(crate) fn decode(&self, alloc: Global) -> Result<Text, AllocError>
         requires { IsReadable self.now }
         ensures { IfOk result (λ text. text ≡ encode_utf8_all (value_view self.now)) }
     {
         let mut value = String::new(alloc);
         let mut rest = self.text;
-        while let Some((turn, after)) = value_turn(rest, self.mark) {
+        while let Some((turn, after)) = character_or_end(rest, self.mark) {
             match turn {
                 Some(c) => value.push(c)?,
                 None => return Ok(Text::of(value)),
@@ -44,9 +43,9 @@ impl<'a> WrittenValue<'a> {
 
 /// An attribute as it is written.
 #[derive(Clone, Copy, Debug, PartialEq, Eq)]
-pub struct WrittenAttribute<'a> {
-    pub name: QualifiedName<'a>,
-    pub value: WrittenValue<'a>,
+pub(crate) struct WrittenAttribute<'a> {
+    pub(crate) name: QualifiedName<'a>,
+    pub(crate) value: WrittenValue<'a>,
 }
 
 /// An attribute, and the text behind it.
@@ -58,7 +57,7 @@ pub(crate) fn attribute(text: &str) -> Option<(WrittenAttribute<'_>, &str)>
     let Some((name, rest)) = qualified_name(text) else {
         return None;
     };
-    let Some(rest) = equals(rest) else {
+    let Some(rest) = equals_sign(rest) else {
         return None;
     };
     let Some((mark, value)) = quote(rest) else {
@@ -77,9 +76,9 @@ pub(crate) fn attribute(text: &str) -> Option<(WrittenAttribute<'_>, &str)>
 }
 
 /// The text behind an equals sign and the white space around it.
-#[tactic(auto, unfolding(crate::specs::Fronts::followed_by, crate::specs::Fronts::give, crate::specs::Fronts::refuse, crate::specs::Fronts::by_next, crate::specs::Items::equals))]
-pub(crate) fn equals(text: &str) -> Option<&str>
-    ensures { option_map behind result ≡ equals (chars text.now) }
+#[tactic(auto, unfolding(crate::specs::Fronts::followed_by, crate::specs::Fronts::give, crate::specs::Fronts::refuse, crate::specs::Fronts::by_next, crate::specs::Items::equals_sign))]
+pub(crate) fn equals_sign(text: &str) -> Option<&str>
+    ensures { option_map behind result ≡ equals_sign (chars text.now) }
 {
     let Some((_, rest)) = run(text, Class::Space) else {
         return None;
@@ -112,10 +111,10 @@ pub(crate) fn quote(text: &str) -> Option<(char, &str)>
 
 /// The text behind the quote that ends a value.
 fn value_end(text: &str, mark: char) -> Option<&str>
-    ensures { option_map behind result ≡ option_map ending (sequence (value_turn mark) (chars text.now)) }
+    ensures { option_map behind result ≡ option_map ending (sequence (character_or_end mark) (chars text.now)) }
 {
     let mut rest = text;
-    while let Some((turn, after)) = value_turn(rest, mark) {
+    while let Some((turn, after)) = character_or_end(rest, mark) {
         match turn {
             Some(_) => rest = after,
             None => return Some(after),
@@ -125,9 +124,9 @@ fn value_end(text: &str, mark: char) -> Option<&str>
 }
 
 /// What stands next in a value: a character, or the end at its mark.
-#[tactic(auto, unfolding(crate::specs::Fronts::followed_by, crate::specs::Fronts::give, crate::specs::Fronts::refuse, crate::specs::Fronts::by_next, crate::specs::Items::value_turn))]
-fn value_turn(text: &str, mark: char) -> Option<(Option<char>, &str)>
-    ensures { option_map (at_front value_turn_view) result ≡ value_turn mark (chars text.now) }
+#[tactic(auto, unfolding(crate::specs::Fronts::followed_by, crate::specs::Fronts::give, crate::specs::Fronts::refuse, crate::specs::Fronts::by_next, crate::specs::Items::character_or_end))]
+fn character_or_end(text: &str, mark: char) -> Option<(Option<char>, &str)>
+    ensures { option_map (at_front character_or_end_view) result ≡ character_or_end mark (chars text.now) }
 {
     let Some((c, rest)) = next_char(text) else {
         return None;
@@ -153,7 +152,7 @@ fn value_turn(text: &str, mark: char) -> Option<(Option<char>, &str)>
 /// The space that a carriage return stands for, together with a line feed behind it.
 #[tactic(auto, unfolding(crate::specs::Fronts::followed_by, crate::specs::Fronts::give, crate::specs::Fronts::refuse, crate::specs::Fronts::by_next, crate::specs::Items::line_end))]
 fn line_end(text: &str) -> Option<(Option<char>, &str)>
-    ensures { option_map (at_front value_turn_view) result ≡ line_end (chars text.now) }
+    ensures { option_map (at_front character_or_end_view) result ≡ line_end (chars text.now) }
 {
     match next_char(text) {
         Some(('\n', rest)) => Some((Some(' '), rest)),

@@ -2,11 +2,10 @@
 ghost use Rattle.std.specs.Prelude.{◌≡◌, IfSome, option_map};
 ghost use Rattle.std.specs.Str.{chars};
 ghost use Rattle.xc_elements.specs.Fronts.{sequence, ending};
-ghost use Rattle.xc_elements.specs.Items.{is_known_encoding, may_declare, part, part_turn, declaration};
-ghost use Rattle.xc_elements.specs.Views.{at_front, item_view, IsReadableItem};
-ghost use Rattle.xc_elements.specs.Steps.Views.{behind, part_turn_view};
+ghost use Rattle.xc_elements.specs.Items.{is_known_encoding, may_declare, part, part_or_end, declaration};
+ghost use Rattle.xc_elements.specs.Steps.Views.{at_front, item_view, IsReadableItem, behind, part_or_end_view};
 
-use crate::attributes::{equals, quote};
+use crate::attributes::{equals_sign, quote};
 use crate::items::Item;
 use crate::names::plain_name;
 use crate::texts::{Class, exactly, is_nothing, next_char, run, spells, spells_in_any_case};
@@ -25,10 +24,10 @@ pub(crate) fn declaration(text: &str) -> Option<(Item<'_>, &str)>
 
 /// The text behind the end of the declaration.
 fn declaration_end(text: &str) -> Option<&str>
-    ensures { option_map behind result ≡ option_map ending (sequence part_turn (chars text.now)) }
+    ensures { option_map behind result ≡ option_map ending (sequence part_or_end (chars text.now)) }
 {
     let mut rest = text;
-    while let Some((is_last, after)) = part_turn(rest) {
+    while let Some((is_last, after)) = part_or_end(rest) {
         if is_last {
             return Some(after);
         }
@@ -38,9 +37,9 @@ fn declaration_end(text: &str) -> Option<&str>
 }
 
 /// Whether the declaration ends here, and the text behind the end, or behind the part that stands here.
-#[tactic(auto, unfolding(crate::specs::Fronts::followed_by, crate::specs::Fronts::give, crate::specs::Fronts::refuse, crate::specs::Fronts::by_next, crate::specs::Items::part_turn))]
-fn part_turn(text: &str) -> Option<(bool, &str)>
-    ensures { option_map (at_front part_turn_view) result ≡ part_turn (chars text.now) }
+#[tactic(auto, unfolding(crate::specs::Fronts::followed_by, crate::specs::Fronts::give, crate::specs::Fronts::refuse, crate::specs::Fronts::by_next, crate::specs::Items::part_or_end))]
+fn part_or_end(text: &str) -> Option<(bool, &str)>
+    ensures { option_map (at_front part_or_end_view) result ≡ part_or_end (chars text.now) }
 {
     let Some((spaces, rest)) = run(text, Class::Space) else {
         return None;
@@ -71,7 +70,7 @@ fn part(text: &str) -> Option<&str>
     let Some((name, rest)) = plain_name(text) else {
         return None;
     };
-    let Some(rest) = equals(rest) else {
+    let Some(rest) = equals_sign(rest) else {
         return None;
     };
     let Some((mark, rest)) = quote(rest) else {

@@ -5,7 +5,7 @@ ghost use Rattle.std.specs.Str.{bytes_eq, chars};
 ghost use Rattle.xc_elements.specs.Declarations.{set_by};
 
 use crate::nodes::NamespaceDeclaration;
-use crate::texts::copied;
+use crate::texts::copy_of;
 use std::alloc::{AllocError, Global};
 use std::collections::BTreeMap;
 use std::marker::Model;
@@ -50,7 +50,7 @@ impl Declared {
         ensures characters { OnOk result (self.new ≡ record { prefix = encode_utf8_all (chars prefix.now); space = space } ∷ self.old) }
     {
         let declaration = NamespaceDeclaration {
-            prefix: copied(alloc, prefix)?,
+            prefix: copy_of(alloc, prefix)?,
             space: space.copy()?,
         };
         self.declarations.reserve(1)?;

@@ -11,8 +11,8 @@ use xc_lists::{Memory, TextPair, has_equal_pairs};
 /// Up to so many attributes are compared in pairs, which takes no memory.
 const FEW: usize = 16;
 
-/// Whether two of the attributes have one expanded name. However many there are, no two of many are compared one by one.
-pub(crate) fn has_double(alloc: Global, attributes: &[Attribute]) -> Result<bool, Memory>
+/// Looks whether two of the attributes have one expanded name. However many there are, no two of many are compared one by one.
+pub(crate) fn look_for_double(alloc: Global, attributes: &[Attribute]) -> Result<bool, Memory>
     ensures { IfOk result (λ answer. answer ≡ has_double attributes.now) }
 {
     if attributes.len() <= FEW {

@@ -1,20 +1,9 @@
-/// Why bytes are not made of items, each with the byte at which that shows.
-#[derive(Clone, Copy, Debug, PartialEq, Eq)]
-pub enum ItemFault {
-    /// From here on the bytes are not UTF-8.
-    NotUtf8(u64),
-    /// No item begins here.
-    NotItem(u64),
-    /// A document type begins here, which is not read.
-    Doctype(u64),
-}
-
 /// Why a document has no tree, each with the byte at which that shows.
 #[derive(Clone, Copy, Debug, PartialEq, Eq)]
 pub enum TreeFault {
     /// Memory ran out.
     Memory,
-    /// From here on the bytes are not UTF-8.
+    /// The byte here is no part of a character of UTF-8.
     NotUtf8(u64),
     /// No item begins here.
     NotItem(u64),
@@ -63,21 +52,6 @@ impl TreeFault {
             | TreeFault::TooDeep(byte)
             | TreeFault::NoSpace(byte)
             | TreeFault::SameAttribute(byte) => Some(byte),
-        }
-    }
-}
-
-impl From<ItemFault> for TreeFault {
-    ghost use Rattle.std.specs.Prelude.{◌≡◌};
-    ghost use Rattle.xc_elements.specs.Faults.{tree_fault};
-
-    ghost from_gives = { λ fault other. other ≡ tree_fault fault };
-
-    fn from(fault: ItemFault) -> Self {
-        match fault {
-            ItemFault::NotUtf8(place) => TreeFault::NotUtf8(place),
-            ItemFault::NotItem(place) => TreeFault::NotItem(place),
-            ItemFault::Doctype(place) => TreeFault::Doctype(place),
         }
     }
 }

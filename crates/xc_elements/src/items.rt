@@ -2,7 +2,7 @@
 ghost use Rattle.std.specs.Prelude.{◌≡◌, IfSome, option_map};
 ghost use Rattle.std.specs.Str.{chars};
 ghost use Rattle.xc_elements.specs.Items.{instruction_rest, behind_target, instruction, comment, section, comment_or_section, markup, letter, item};
-ghost use Rattle.xc_elements.specs.Views.{at_front, item_view, IsReadableItem};
+ghost use Rattle.xc_elements.specs.Steps.Views.{at_front, item_view, IsReadableItem};
 
 use crate::declarations::declaration;
 use crate::names::{QualifiedName, plain_name};
@@ -13,7 +13,7 @@ use xc_chars::characters::{is_character, is_space};
 
 /// An item of a document.
 #[derive(Clone, Copy, Debug, PartialEq, Eq)]
-pub enum Item<'a> {
+pub(crate) enum Item<'a> {
     /// `<?xml ..?>`, at the start of the document.
     Declaration,
     /// `<name ..>`
@@ -37,7 +37,7 @@ pub enum Item<'a> {
 /// The item at the front of a text, and the text behind it. The text may be that of a whole document, or what follows its
 /// first items.
 #[tactic(auto, unfolding(crate::specs::Fronts::followed_by, crate::specs::Fronts::give, crate::specs::Fronts::refuse, crate::specs::Fronts::by_next, crate::specs::Items::item))]
-pub fn item_at(text: &str, is_first: bool) -> Option<(Item<'_>, &str)>
+pub(crate) fn item_at(text: &str, is_first: bool) -> Option<(Item<'_>, &str)>
     ensures value { option_map (at_front item_view) result ≡ item is_first (chars text.now) }
     ensures readable { IfSome result (λ x. IsReadableItem x.0) }
 {

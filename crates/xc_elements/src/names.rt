@@ -3,24 +3,24 @@ ghost use Rattle.std.specs.Prelude.{◌≡◌, option_map};
 ghost use Rattle.std.specs.Str.{chars};
 ghost use Rattle.xc_elements.specs.Elements.{same_name};
 ghost use Rattle.xc_elements.specs.Items.{plain_name, qualified_name};
-ghost use Rattle.xc_elements.specs.Views.{lent, at_front, name_view};
+ghost use Rattle.xc_elements.specs.Steps.Views.{lent_text, at_front, name_view};
 
 use crate::texts::{Class, next_char, run, same_text};
 use xc_chars::characters::is_name_start;
 
 /// A name of a tag or an attribute as it is written: two plain names joined by a colon, or one alone.
 #[derive(Clone, Copy, Debug, PartialEq, Eq)]
-pub struct QualifiedName<'a> {
+pub(crate) struct QualifiedName<'a> {
     /// What stands before the colon; empty where there is none.
-    pub prefix: &'a str,
+    pub(crate) prefix: &'a str,
     /// The other plain name.
-    pub local: &'a str,
+    pub(crate) local: &'a str,
 }
 
 /// A name without a colon.
 #[tactic(auto, unfolding(crate::specs::Fronts::by_next, crate::specs::Fronts::refuse, crate::specs::Items::plain_name))]
 pub(crate) fn plain_name(text: &str) -> Option<(&str, &str)>
-    ensures { option_map (at_front lent) result ≡ plain_name (chars text.now) }
+    ensures { option_map (at_front lent_text) result ≡ plain_name (chars text.now) }
 {
     match next_char(text) {
         Some((c, _)) => {

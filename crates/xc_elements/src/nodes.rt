@@ -14,6 +14,7 @@ use xc_lists::{Items, Text};
 pub struct Attribute {
     /// The URI of the name's namespace, empty where it has none.
     pub space: Text,
+    /// The local part of the name.
     pub local: Text,
     /// The value, with white space as XML 1.0 normalizes it: sections 2.11 and 3.3.3.
     pub value: Text,
@@ -33,6 +34,7 @@ pub struct NamespaceDeclaration {
 pub struct Node {
     /// The URI of the name's namespace, empty where it has none.
     pub space: Text,
+    /// The local part of the name.
     pub local: Text,
     /// In the order of the document.
     pub attributes: Items<Attribute>,

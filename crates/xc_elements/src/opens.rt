@@ -2,7 +2,7 @@
 ghost use Rattle.std.specs.Prelude.{◌≡◌, ◌∷◌, [], false, IfOk, MatchOption, length, encode_utf8_all, IsTrue};
 ghost use Rattle.std.specs.Str.{chars};
 ghost use Rattle.xc_elements.specs.Elements.{line_character, section_text};
-ghost use Rattle.xc_elements.specs.Steps.Kept.{kept, with_text, none_kept, innermost_kept};
+ghost use Rattle.xc_elements.specs.Steps.Kept.{kept_of, with_text, none_kept, innermost_kept};
 
 use crate::names::QualifiedName;
 use crate::texts::next_char;
@@ -28,11 +28,11 @@ pub(crate) struct Opens<'a> {
 
 impl<'a> Model for Opens<'a> {
     ghost use Rattle.std.specs.Prelude.{List, map, reverse};
-    ghost use Rattle.xc_elements.specs.Steps.Kept.{Kept, kept};
+    ghost use Rattle.xc_elements.specs.Steps.Kept.{Kept, kept_of};
 
     ghost Value = { List Kept };
 
-    ghost view = { λ o. reverse (map kept o.elements.items) };
+    ghost view = { λ o. reverse (map kept_of o.elements.items) };
 }
 
 impl<'a> Opens<'a> {
@@ -64,7 +64,7 @@ impl<'a> Opens<'a> {
     }
 
     pub(crate) fn push(&mut self, element: OpenElement<'a>) -> Result<(), AllocError>
-        ensures { IfOk result (λ _. self.new ≡ kept element.entry ∷ self.old) }
+        ensures { IfOk result (λ _. self.new ≡ kept_of element.entry ∷ self.old) }
     {
         self.elements.push(element)?;
         Ok(())
@@ -72,7 +72,7 @@ impl<'a> Opens<'a> {
 
     /// The innermost, which is open no longer.
     pub(crate) fn pop(&mut self) -> Option<OpenElement<'a>>
-        ensures { MatchOption result (self.old ≡ []) (λ element. self.old ≡ kept element ∷ self.new) }
+        ensures { MatchOption result (self.old ≡ []) (λ element. self.old ≡ kept_of element ∷ self.new) }
     {
         self.elements.pop()
     }

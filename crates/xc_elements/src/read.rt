@@ -2,7 +2,7 @@
 ghost use Rattle.std.specs.Prelude.{◌≡◌, ◌<◌, ◌^◌, IfOk, IfErr, length};
 ghost use Rattle.xc_elements.specs.DocumentTrees.{IsTreeOf, IsRefusal};
 
-use crate::documents::{fault_at, text_of};
+use crate::documents::{no_item_fault, text_of};
 use crate::fault::TreeFault;
 use crate::items::item_at;
 use crate::reader::Reader;
@@ -27,10 +27,10 @@ pub fn read_tree(alloc: Global, bytes: &[u8]) -> Result<Tree, TreeFault>
     while !is_nothing(rest) {
         let place = (bytes.len() - rest.len()) as u64;
         let Some((item, after)) = item_at(rest, is_first) else {
-            return Err(TreeFault::from(fault_at(place, rest)));
+            return Err(no_item_fault(place, rest));
         };
-        if let Err(refusal) = reader.read(alloc, item) {
-            return Err(refusal.at(place));
+        if let Err(refusal) = reader.read_item(alloc, item) {
+            return Err(refusal.fault_at(place));
         }
         rest = after;
         is_first = false;

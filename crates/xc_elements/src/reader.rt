@@ -1,10 +1,10 @@
 // The reader of a document's items, with what is open.
-ghost use Rattle.std.specs.Prelude.{◌≡◌, ◌==◌, ◌||◌, not, ◌<◌, ◌+◌, ◌^◌, ◌++◌, ◌∷◌, [], IfOk, IfErr, IsSome, List, length};
-ghost use Rattle.xc_elements.specs.Items.{Meaning, End, Letter, Reference, Section, tag_rest};
+ghost use Rattle.std.specs.Prelude.{◌≡◌, ◌==◌, ◌||◌, not, ◌<◌, ◌+◌, ◌^◌, ◌++◌, ◌∷◌, [], IfOk, IfErr, length};
+ghost use Rattle.xc_elements.specs.Items.{End, Letter, Reference, Section};
 ghost use Rattle.xc_elements.specs.Steps.Kept.{AreBelow, none_kept};
 ghost use Rattle.xc_elements.specs.Namespaces.{declarations};
-ghost use Rattle.xc_elements.specs.Steps.Reading.{Reads, IsFine, IsRefused, IsRefusedAt, HasNode, tag_view};
-ghost use Rattle.xc_elements.specs.Views.{lent, name_view, item_view, IsReadableItem};
+ghost use Rattle.xc_elements.specs.Steps.Reading.{Reads, HasRead, Takes, Refuses, IsRefusedAt, HasNode, tag_view};
+ghost use Rattle.xc_elements.specs.Steps.Views.{lent_text, name_view, item_view, IsReadableItem, IsReadableTag};
 
 use crate::expanded::{declare, new_node};
 use crate::items::Item;
@@ -47,21 +47,21 @@ impl<'a> Reader<'a> {
     }
 
     /// Reads an item.
-    pub(crate) fn read(&mut self, alloc: Global, item: Item<'a>) -> Result<(), Refusal>
+    pub(crate) fn read_item(&mut self, alloc: Global, item: Item<'a>) -> Result<(), Refusal>
         requires readable { IsReadableItem item }
         requires room { length self.old.nodes.items + 1 < 2 ^ 32 }
         requires begun { AreBelow (length self.old.nodes.items) self.old.opens }
-        ensures reads { IfOk result (λ _. (before : List Meaning) → Reads self.old before → Reads self.new (item_view item.entry ∷ before)) }
-        ensures fine { IfOk result (λ _. (before : List Meaning) → Reads self.old before → IsFine before (item_view item.entry)) }
-        ensures refused { IfErr result (λ refusal. (before : List Meaning) → Reads self.old before → IsRefused before (item_view item.entry) refusal) }
+        ensures reads { IfOk result (λ _. HasRead self.old self.new (item_view item.entry)) }
+        ensures fine { IfOk result (λ _. Takes self.old (item_view item.entry)) }
+        ensures refused { IfErr result (Refuses self.old (item_view item.entry)) }
     {
         match item {
-            Item::Start(tag) => self.start(alloc, tag),
-            Item::Empty(tag) => self.empty(alloc, tag),
-            Item::End(name) => self.end(name),
-            Item::Section(text) => self.section(text),
-            Item::Letter(c) => self.letter(c),
-            Item::Reference(c) => self.reference(c),
+            Item::Start(tag) => self.read_start_tag(alloc, tag),
+            Item::Empty(tag) => self.read_empty_tag(alloc, tag),
+            Item::End(name) => self.read_end_tag(name),
+            Item::Section(text) => self.read_section(text),
+            Item::Letter(c) => self.read_letter(c),
+            Item::Reference(c) => self.read_reference(c),
             Item::Declaration | Item::Comment | Item::Instruction => {
                 self.behind_return = false;
                 Ok(())
@@ -77,8 +77,8 @@ impl<'a> Reader<'a> {
     }
 
     /// The node of a tag, of which the declarations come into scope.
-    fn begin(&mut self, alloc: Global, tag: Tag<'a>) -> Result<Node, Refusal>
-        requires readable { IsSome (tag_rest (lent tag.attributes)) }
+    fn begin_element(&mut self, alloc: Global, tag: Tag<'a>) -> Result<Node, Refusal>
+        requires readable { IsReadableTag tag }
         requires room { length self.old.nodes.items + 1 < 2 ^ 32 }
         ensures scope { IfOk result (λ _. self.new.scope ≡ declarations (tag_view tag.entry ∷ []) ++ self.old.scope) }
         ensures opens { IfOk result (λ _. self.new.opens ≡ self.old.opens) }
@@ -99,16 +99,16 @@ impl<'a> Reader<'a> {
     }
 
     /// Reads a start tag.
-    fn start(&mut self, alloc: Global, tag: Tag<'a>) -> Result<(), Refusal>
-        requires readable { IsSome (tag_rest (lent tag.attributes)) }
+    fn read_start_tag(&mut self, alloc: Global, tag: Tag<'a>) -> Result<(), Refusal>
+        requires readable { IsReadableTag tag }
         requires room { length self.old.nodes.items + 1 < 2 ^ 32 }
-        ensures reads { IfOk result (λ _. (before : List Meaning) → Reads self.old before → Reads self.new (item_view (Item.Start tag.entry) ∷ before)) }
-        ensures fine { IfOk result (λ _. (before : List Meaning) → Reads self.old before → IsFine before (item_view (Item.Start tag.entry))) }
-        ensures refused { IfErr result (λ refusal. (before : List Meaning) → Reads self.old before → IsRefused before (item_view (Item.Start tag.entry)) refusal) }
+        ensures reads { IfOk result (λ _. HasRead self.old self.new (item_view (Item.Start tag.entry))) }
+        ensures fine { IfOk result (λ _. Takes self.old (item_view (Item.Start tag.entry))) }
+        ensures refused { IfErr result (Refuses self.old (item_view (Item.Start tag.entry))) }
     {
         let outside = self.scope.len();
         let number = self.nodes.len() as u32;
-        let node = self.begin(alloc, tag)?;
+        let node = self.begin_element(alloc, tag)?;
         self.opens.push(OpenElement {
             number,
             name: tag.name,
@@ -121,15 +121,15 @@ impl<'a> Reader<'a> {
     }
 
     /// Reads an empty tag.
-    fn empty(&mut self, alloc: Global, tag: Tag<'a>) -> Result<(), Refusal>
-        requires readable { IsSome (tag_rest (lent tag.attributes)) }
+    fn read_empty_tag(&mut self, alloc: Global, tag: Tag<'a>) -> Result<(), Refusal>
+        requires readable { IsReadableTag tag }
         requires room { length self.old.nodes.items + 1 < 2 ^ 32 }
-        ensures reads { IfOk result (λ _. (before : List Meaning) → Reads self.old before → Reads self.new (item_view (Item.Empty tag.entry) ∷ before)) }
-        ensures fine { IfOk result (λ _. (before : List Meaning) → Reads self.old before → IsFine before (item_view (Item.Empty tag.entry))) }
-        ensures refused { IfErr result (λ refusal. (before : List Meaning) → Reads self.old before → IsRefused before (item_view (Item.Empty tag.entry)) refusal) }
+        ensures reads { IfOk result (λ _. HasRead self.old self.new (item_view (Item.Empty tag.entry))) }
+        ensures fine { IfOk result (λ _. Takes self.old (item_view (Item.Empty tag.entry))) }
+        ensures refused { IfErr result (Refuses self.old (item_view (Item.Empty tag.entry))) }
     {
         let outside = self.scope.len();
-        let node = self.begin(alloc, tag)?;
+        let node = self.begin_element(alloc, tag)?;
         self.scope.leave(outside);
         self.nodes.push(node)?;
         self.behind_return = false;
@@ -137,12 +137,12 @@ impl<'a> Reader<'a> {
     }
 
     /// Reads an end tag.
-    fn end(&mut self, name: QualifiedName) -> Result<(), Refusal>
+    fn read_end_tag(&mut self, name: QualifiedName) -> Result<(), Refusal>
         requires room { length self.old.nodes.items + 1 < 2 ^ 32 }
         requires begun { AreBelow (length self.old.nodes.items) self.old.opens }
-        ensures reads { IfOk result (λ _. (before : List Meaning) → Reads self.old before → Reads self.new (End (name_view name.entry) ∷ before)) }
-        ensures fine { IfOk result (λ _. (before : List Meaning) → Reads self.old before → IsFine before (End (name_view name.entry))) }
-        ensures refused { IfErr result (λ refusal. (before : List Meaning) → Reads self.old before → IsRefused before (End (name_view name.entry)) refusal) }
+        ensures reads { IfOk result (λ _. HasRead self.old self.new (End (name_view name.entry))) }
+        ensures fine { IfOk result (λ _. Takes self.old (End (name_view name.entry))) }
+        ensures refused { IfErr result (Refuses self.old (End (name_view name.entry))) }
     {
         let Some(element) = self.opens.pop() else {
             return Err(Refusal::Unbalanced);
@@ -160,10 +160,10 @@ impl<'a> Reader<'a> {
     }
 
     /// Reads a character that stands for itself.
-    fn letter(&mut self, c: char) -> Result<(), Refusal>
-        ensures reads { IfOk result (λ _. (before : List Meaning) → Reads self.old before → Reads self.new (Letter c ∷ before)) }
-        ensures fine { IfOk result (λ _. (before : List Meaning) → Reads self.old before → IsFine before (Letter c)) }
-        ensures refused { IfErr result (λ refusal. (before : List Meaning) → Reads self.old before → IsRefused before (Letter c) refusal) }
+    fn read_letter(&mut self, c: char) -> Result<(), Refusal>
+        ensures reads { IfOk result (λ _. HasRead self.old self.new (Letter c)) }
+        ensures fine { IfOk result (λ _. Takes self.old (Letter c)) }
+        ensures refused { IfErr result (Refuses self.old (Letter c)) }
     {
         if self.opens.is_empty() && !is_space(c) {
             return Err(Refusal::Unbalanced);
@@ -174,10 +174,10 @@ impl<'a> Reader<'a> {
     }
 
     /// Reads a reference to a character.
-    fn reference(&mut self, c: char) -> Result<(), Refusal>
-        ensures reads { IfOk result (λ _. (before : List Meaning) → Reads self.old before → Reads self.new (Reference c ∷ before)) }
-        ensures fine { IfOk result (λ _. (before : List Meaning) → Reads self.old before → IsFine before (Reference c)) }
-        ensures refused { IfErr result (λ refusal. (before : List Meaning) → Reads self.old before → IsRefused before (Reference c) refusal) }
+    fn read_reference(&mut self, c: char) -> Result<(), Refusal>
+        ensures reads { IfOk result (λ _. HasRead self.old self.new (Reference c)) }
+        ensures fine { IfOk result (λ _. Takes self.old (Reference c)) }
+        ensures refused { IfErr result (Refuses self.old (Reference c)) }
     {
         if self.opens.is_empty() {
             return Err(Refusal::Unbalanced);
@@ -188,10 +188,10 @@ impl<'a> Reader<'a> {
     }
 
     /// Reads a section.
-    fn section(&mut self, text: &str) -> Result<(), Refusal>
-        ensures reads { IfOk result (λ _. (before : List Meaning) → Reads self.old before → Reads self.new (Section (lent text.entry) ∷ before)) }
-        ensures fine { IfOk result (λ _. (before : List Meaning) → Reads self.old before → IsFine before (Section (lent text.entry))) }
-        ensures refused { IfErr result (λ refusal. (before : List Meaning) → Reads self.old before → IsRefused before (Section (lent text.entry)) refusal) }
+    fn read_section(&mut self, text: &str) -> Result<(), Refusal>
+        ensures reads { IfOk result (λ _. HasRead self.old self.new (Section (lent_text text.entry))) }
+        ensures fine { IfOk result (λ _. Takes self.old (Section (lent_text text.entry))) }
+        ensures refused { IfErr result (Refuses self.old (Section (lent_text text.entry))) }
     {
         if self.opens.is_empty() {
             return Err(Refusal::Unbalanced);

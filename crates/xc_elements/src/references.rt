@@ -4,7 +4,7 @@ ghost use Rattle.std.specs.Str.{chars};
 ghost use Rattle.xc_chars.specs.Characters.{is_character};
 ghost use Rattle.xc_elements.specs.Fronts.{one};
 ghost use Rattle.xc_elements.specs.Items.{character_numbered, character_by_mark, character_by_hash, referent, reference};
-ghost use Rattle.xc_elements.specs.Views.{at_front};
+ghost use Rattle.xc_elements.specs.Steps.Views.{at_front};
 
 use crate::texts::{is_nothing, next_char, spells, up_to};
 use xc_chars::characters::is_character;
@@ -87,12 +87,12 @@ fn character_numbered(base: u32, digits: &str) -> Option<char>
         }
         rest = after;
     }
-    numbered(number)
+    character_of_number(number)
 }
 
 /// The character of this number, if a document may have it.
 #[tactic(auto, unfolding(xc_chars::specs::Characters::is_character))]
-fn numbered(number: u32) -> Option<char>
+fn character_of_number(number: u32) -> Option<char>
     ensures { result ≡ (if is_character number then Some number else None) }
 {
     match char::from_u32(number) {

@@ -1,6 +1,6 @@
 // Why an item is refused.
 ghost use Rattle.std.specs.Prelude.{◌≡◌};
-ghost use Rattle.xc_elements.specs.Steps.Refusals.{refused_at};
+ghost use Rattle.xc_elements.specs.Steps.Refusals.{fault_at};
 
 use crate::fault::TreeFault;
 use std::alloc::{AllocError, AllocFailed};
@@ -17,8 +17,8 @@ pub(crate) enum Refusal {
 
 impl Refusal {
     /// The fault of an item at this place.
-    pub(crate) fn at(self, place: u64) -> TreeFault
-        ensures { result ≡ refused_at self place }
+    pub(crate) fn fault_at(self, place: u64) -> TreeFault
+        ensures { result ≡ fault_at self place }
     {
         match self {
             Refusal::Memory => TreeFault::Memory,

@@ -4,7 +4,7 @@ ghost use Rattle.std.specs.Str.{bytes_eq, chars};
 ghost use Rattle.xc_elements.specs.Steps.Bindings.{place_in};
 ghost use Rattle.xc_elements.specs.Namespaces.{Binding, declares_prefix, declares_default, declared_prefix, nearest, space_under, element_space, attribute_space};
 ghost use Rattle.xc_elements.specs.Scopes.{not_empty};
-ghost use Rattle.xc_elements.specs.Views.{lent, name_view};
+ghost use Rattle.xc_elements.specs.Steps.Views.{lent_text, name_view};
 
 use crate::names::QualifiedName;
 use crate::texts::{is_nothing, spells};
@@ -177,7 +177,7 @@ pub(crate) fn declares_default(name: QualifiedName) -> bool
 /// The prefix that an attribute of this name declares, which is empty for the default.
 #[tactic(auto, using(crate::proofs::TextLaws::no_text))]
 pub(crate) fn declared_prefix(name: QualifiedName<'_>) -> Option<&str>
-    ensures { option_map lent result ≡ declared_prefix (name_view name.entry) }
+    ensures { option_map lent_text result ≡ declared_prefix (name_view name.entry) }
 {
     if declares_prefix(name) {
         Some(name.local)

@@ -2,8 +2,8 @@
 ghost use Rattle.std.specs.Prelude.{◌≡◌, IfSome, option_map};
 ghost use Rattle.std.specs.Str.{chars};
 ghost use Rattle.xc_elements.specs.Fronts.{ending};
-ghost use Rattle.xc_elements.specs.Items.{tag_turn, tag_rest, tag, end_tag};
-ghost use Rattle.xc_elements.specs.Views.{at_front, tag_part_view, item_view, IsReadablePart, IsReadableItem};
+ghost use Rattle.xc_elements.specs.Items.{attribute_or_end, tag_rest, tag, end_tag};
+ghost use Rattle.xc_elements.specs.Steps.Views.{at_front, tag_part_view, item_view, IsReadablePart, IsReadableItem};
 
 use crate::attributes::{WrittenAttribute, attribute};
 use crate::items::Item;
@@ -12,24 +12,24 @@ use crate::texts::{Class, exactly, is_nothing, next_char, run};
 
 /// A start tag or an empty tag.
 #[derive(Clone, Copy, Debug, PartialEq, Eq)]
-pub struct Tag<'a> {
-    pub name: QualifiedName<'a>,
+pub(crate) struct Tag<'a> {
+    pub(crate) name: QualifiedName<'a>,
     /// The document from behind the name on, at whose front the attributes stand.
-    pub attributes: &'a str,
+    pub(crate) attributes: &'a str,
 }
 
 /// What stands next behind a tag's name.
 #[derive(Clone, Copy, Debug, PartialEq, Eq)]
-pub enum TagPart<'a> {
+pub(crate) enum TagPart<'a> {
     Attribute(WrittenAttribute<'a>),
     /// The end of the tag, which may be the end of its element too.
     End(bool),
 }
 
 /// What stands next behind a tag's name, and the text behind it.
-#[tactic(auto, unfolding(crate::specs::Fronts::followed_by, crate::specs::Fronts::give, crate::specs::Fronts::refuse, crate::specs::Fronts::by_next, crate::specs::Items::tag_turn))]
-pub fn tag_part(text: &str) -> Option<(TagPart<'_>, &str)>
-    ensures value { option_map (at_front tag_part_view) result ≡ tag_turn (chars text.now) }
+#[tactic(auto, unfolding(crate::specs::Fronts::followed_by, crate::specs::Fronts::give, crate::specs::Fronts::refuse, crate::specs::Fronts::by_next, crate::specs::Items::attribute_or_end))]
+pub(crate) fn attribute_or_end(text: &str) -> Option<(TagPart<'_>, &str)>
+    ensures value { option_map (at_front tag_part_view) result ≡ attribute_or_end (chars text.now) }
     ensures readable { IfSome result (λ x. IsReadablePart x.0) }
 {
     let Some((spaces, rest)) = run(text, Class::Space) else {
@@ -60,7 +60,7 @@ fn tag_end(text: &str) -> Option<(bool, &str)>
     ensures { option_map (at_front (λ is_empty. is_empty)) result ≡ option_map ending (tag_rest (chars text.now)) }
 {
     let mut rest = text;
-    while let Some((part, after)) = tag_part(rest) {
+    while let Some((part, after)) = attribute_or_end(rest) {
         match part {
             TagPart::Attribute(_) => rest = after,
             TagPart::End(is_empty) => return Some((is_empty, after)),

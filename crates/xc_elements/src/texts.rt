@@ -3,8 +3,7 @@ ghost use Rattle.std.specs.Prelude.{◌≡◌, ◌<◌, ◌++◌, ℕ, List, IfS
 ghost use Rattle.std.specs.Str.{chars, bytes_eq};
 ghost use Rattle.xc_elements.specs.Fronts.{one, exactly, run, up_to};
 ghost use Rattle.xc_elements.specs.Items.{is_nil, spells, spells_in_any_case};
-ghost use Rattle.xc_elements.specs.Views.{lent, at_front};
-ghost use Rattle.xc_elements.specs.Steps.Views.{behind, is_in};
+ghost use Rattle.xc_elements.specs.Steps.Views.{lent_text, at_front, behind, is_in};
 
 use std::alloc::{AllocError, Global};
 use xc_chars::characters::{is_character, is_name_char, is_space};
@@ -34,7 +33,7 @@ pub(crate) fn next_char(text: &str) -> Option<(char, &str)>
 }
 
 /// The part of a text before a rest of it.
-fn before<'a>(text: &'a str, rest: &str) -> &'a str
+fn text_before<'a>(text: &'a str, rest: &str) -> &'a str
     requires { (front : List ℕ) × (chars text.now ≡ front ++ chars rest.now) }
     ensures { (front : List ℕ) → chars text.now ≡ front ++ chars rest.now → chars result.now ≡ front }
 {
@@ -72,12 +71,12 @@ pub(crate) fn exactly<'a>(text: &'a str, word: &[char]) -> Option<&'a str>
 
 /// The characters of a class at the front of a text, up to the first that is not of it, and the text from there on.
 pub(crate) fn run(text: &str, class: Class) -> Option<(&str, &str)>
-    ensures { option_map (at_front lent) result ≡ run (is_in class) (chars text.now) }
+    ensures { option_map (at_front lent_text) result ≡ run (is_in class) (chars text.now) }
 {
     let mut rest = text;
     while let Some((c, after)) = next_char(rest) {
         if !is_in(class, c) {
-            return Some((before(text, rest), rest));
+            return Some((text_before(text, rest), rest));
         }
         rest = after;
     }
@@ -86,12 +85,12 @@ pub(crate) fn run(text: &str, class: Class) -> Option<(&str, &str)>
 
 /// The text before the first place at which the characters of a mark stand, and the text behind these.
 pub(crate) fn up_to<'a>(text: &'a str, mark: &[char]) -> Option<(&'a str, &'a str)>
-    ensures { option_map (at_front lent) result ≡ up_to mark.now (chars text.now) }
+    ensures { option_map (at_front lent_text) result ≡ up_to mark.now (chars text.now) }
 {
     let mut rest = text;
     while let Some((c, after)) = next_char(rest) {
         if let Some(end) = exactly(rest, mark) {
-            return Some((before(text, rest), end));
+            return Some((text_before(text, rest), end));
         }
         if !is_character(c) {
             return None;
@@ -148,7 +147,7 @@ pub(crate) fn same_text(one: &str, other: &str) -> bool
 }
 
 /// A text in memory of its own.
-pub(crate) fn copied(alloc: Global, text: &str) -> Result<Text, AllocError>
+pub(crate) fn copy_of(alloc: Global, text: &str) -> Result<Text, AllocError>
     ensures bytes { IfOk result (λ copy. copy ≡ text.now) }
     ensures characters { IfOk result (λ copy. copy ≡ encode_utf8_all (chars text.now)) }
 {

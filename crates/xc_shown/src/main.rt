@@ -4,7 +4,6 @@
 
 mod cases;
 mod escapes;
-mod items;
 mod linkbases;
 mod nodes;
 mod numbers;
@@ -33,7 +32,6 @@ fn main(rt: HostRuntime) -> io::Result<()> {
 // What the readers of a subject make of its cases.
 fn show(alloc: Global, subject: &str, parts: &[Part]) -> Result<String, AllocError> {
     match subject {
-        "items" => items::show(alloc, parts),
         "trees" => trees::show(alloc, parts),
         "nodes" => nodes::show(alloc, parts),
         "schemas" => schemas::show(alloc, parts),

@@ -6,7 +6,6 @@
 use crate::cases::Part;
 use crate::taxonomies::around_space;
 use std::alloc::{AllocError, Global};
-use xc_elements::text_of;
 use xc_io::{MemoryShelf, MemorySink};
 use xc_top::run;
 
@@ -100,7 +99,7 @@ fn words_of(alloc: Global, line: &str) -> Result<Vec<String>, AllocError> {
 
 // Each line of what is written; the last may lack its end.
 fn push_lines(out: &mut String, bytes: &[u8]) -> Result<(), AllocError> {
-    let Ok(text) = text_of(bytes) else {
+    let Ok(text) = std::str::from_utf8(bytes) else {
         return out.push_str("  no text\n");
     };
     for line in text.lines() {

@@ -1,12 +1,12 @@
 // Trees of documents, and the first faults of those that have none.
 //
 // Each line of a part's text is a document, in which a backslash and a letter stand for bytes that
-// would not be seen. Under `= items` a document is only cut into items.
+// would not be seen.
 
 use crate::cases::Part;
 use crate::escapes::{push_escaped, unescaped};
 use std::alloc::{AllocError, Global};
-use xc_elements::{Node, Tree, TreeFault, item_fault, read_tree};
+use xc_elements::{Node, Tree, TreeFault, read_tree};
 
 /// Each document, and behind it a line for each element of its tree: the number of its parent, that
 /// behind its last descendant, its expanded name, its attributes, and behind `|` its text; or the
@@ -20,25 +20,13 @@ pub fn show(alloc: Global, parts: &[Part]) -> Result<String, AllocError> {
 }
 
 fn show_part(alloc: Global, out: &mut String, part: &Part) -> Result<(), AllocError> {
-    let items_alone = part.words.as_str() == "items";
     for line in part.text.as_str().lines() {
         out.push_str(line)?;
         out.push('\n')?;
         let document = unescaped(alloc, line)?;
-        if items_alone {
-            show_items(alloc, out, document.as_slice())?;
-        } else {
-            show_document(alloc, out, document.as_slice())?;
-        }
+        show_document(alloc, out, document.as_slice())?;
     }
     Ok(())
-}
-
-fn show_items(alloc: Global, out: &mut String, document: &[u8]) -> Result<(), AllocError> {
-    match item_fault(document) {
-        Some(fault) => show_fault(alloc, out, TreeFault::from(fault)),
-        None => out.push_str("  items\n"),
-    }
 }
 
 fn show_document(alloc: Global, out: &mut String, document: &[u8]) -> Result<(), AllocError> {

@@ -4,7 +4,7 @@ use Rattle.std.specs.Prelude.{codes, ◌↔◌, ◌==◌, ◌||◌}
 use Rattle.std.proofs.lemmas.Bool.{or_cases}
 use Rattle.xc_chars.specs.Characters.{is_space, is_name_start, is_name_char}
 use Rattle.xc_elements.specs.Fronts.{go_on, followed_by, ◌>>=◌, ◌>>◌, give, refuse, one, exactly, run}
-use Rattle.xc_elements.specs.Items.{Name, Pair, qualified_name, equals, quote, value_until, attribute}
+use Rattle.xc_elements.specs.Items.{Name, Pair, qualified_name, equals_sign, quote, value_until, attribute}
 use Rattle.xc_elements.specs.Grammar.Words.{AreSpaces}
 use Rattle.xc_elements.specs.Grammar.Values.{IsQuote, IsValue}
 use Rattle.xc_elements.specs.Grammar.Attributes.{IsAttribute}
@@ -30,8 +30,8 @@ equals_runs text before middle behind after rest t e u = record {
   white_behind = u.each;
 }
 
-pub equals_read : (text : List ℕ) (u : Unit {0}) (rest : List ℕ) → equals text ≡ Some (u, rest) → IsEquals text rest
-unfolding equals followed_by give
+pub equals_read : (text : List ℕ) (u : Unit {0}) (rest : List ℕ) → equals_sign text ≡ Some (u, rest) → IsEquals text rest
+unfolding equals_sign followed_by give
 equals_read text u rest e =
     let three = split (go_on (go_on (run is_space text) (λ _. exactly (codes "="))) (λ _. run is_space)) (λ _. give tt) (u, rest) e in
     let two = split (go_on (run is_space text) (λ _. exactly (codes "="))) (λ _. run is_space) three.0 three.1 in
@@ -40,8 +40,8 @@ equals_read text u rest e =
     let last = subst (λ (z : List ℕ). IsRun is_space two.0.1 three.0.0 z) same.1 (run_read is_space two.0.1 three.0.0 three.0.1 two.2) in
     equals_runs text first.0.0 first.0.1 three.0.0 two.0.1 rest (run_read is_space text first.0.0 first.0.1 first.1) (exactly_whole (codes "=") first.0.1 two.0.0 two.0.1 first.2) last
 
-pub equals_spelled : (before behind rest : List ℕ) → AreSpaces before → AreSpaces behind → Stops is_space rest → equals (before ++ (61 ∷ (behind ++ rest))) ≡ Some (tt, rest)
-unfolding equals followed_by give exactly
+pub equals_spelled : (before behind rest : List ℕ) → AreSpaces before → AreSpaces behind → Stops is_space rest → equals_sign (before ++ (61 ∷ (behind ++ rest))) ≡ Some (tt, rest)
+unfolding equals_sign followed_by give exactly
 equals_spelled before behind rest a b stops = rw (run_spelled is_space before (61 ∷ (behind ++ rest)) a refl, run_spelled is_space behind rest b stops) refl
 
 -- ---- quotes
@@ -104,8 +104,8 @@ attribute_is text p q r s same h = subst (λ (z : List ℕ). IsAttribute text q 
 attribute_read : (text : List ℕ) (pair : Pair) (rest : List ℕ) → attribute text ≡ Some (pair, rest) → IsAttribute text pair rest
 unfolding attribute followed_by give
 attribute_read text pair rest e =
-    let n = split (qualified_name text) (λ name. equals >> (quote >>= λ mark. value_until mark >>= λ value. give (pair_of name value))) (pair, rest) e in
-    let s = split (equals n.0.1) (λ _. quote >>= λ mark. value_until mark >>= λ value. give (pair_of n.0.0 value)) (pair, rest) n.2 in
+    let n = split (qualified_name text) (λ name. equals_sign >> (quote >>= λ mark. value_until mark >>= λ value. give (pair_of name value))) (pair, rest) e in
+    let s = split (equals_sign n.0.1) (λ _. quote >>= λ mark. value_until mark >>= λ value. give (pair_of n.0.0 value)) (pair, rest) n.2 in
     let q = split (quote s.0.1) (λ mark. value_until mark >>= λ value. give (pair_of n.0.0 value)) (pair, rest) s.2 in
     let v = split (value_until q.0.0 q.0.1) (λ value. give (pair_of n.0.0 value)) (pair, rest) q.2 in
     let same = same_answer (pair_of n.0.0 v.0.0) pair v.0.1 rest v.2 in

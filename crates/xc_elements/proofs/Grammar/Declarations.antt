@@ -5,12 +5,12 @@ use Rattle.std.specs.Char.{to_ascii_lowercase}
 use Rattle.std.proofs.lemmas.Bool.{and_from, and_parts, or_cases, or_left, or_right, not-true, false_from_ne_true, cases_Bool}
 use Rattle.xc_chars.specs.Characters.{is_character, is_space, is_name_start, is_name_char}
 use Rattle.xc_elements.specs.Fronts.{followed_by, ◌>>=◌, ◌>>◌, give, refuse, one, by_next, past, exactly, run, Turn, More, Last, sequence}
-use Rattle.xc_elements.specs.Items.{Declaration, is_nil, spells, spells_in_any_case, is_known_encoding, may_declare, is_inside, plain_name, equals, quote, part, part_turn_at, part_turn, declaration, instruction_rest, behind_target, instruction, markup, item}
+use Rattle.xc_elements.specs.Items.{Declaration, is_nil, spells, spells_in_any_case, is_known_encoding, may_declare, is_inside, plain_name, equals_sign, quote, part, part_or_end_by, part_or_end, declaration, instruction_rest, behind_target, instruction, markup, item}
 use Rattle.xc_elements.specs.Grammar.Words.{Each, AreCharacters, AreSpaces, IsPlainName, Occurs}
 use Rattle.xc_elements.specs.Grammar.Tags.{Closes}
 use Rattle.xc_elements.specs.Grammar.Declarations.{IsEncoding, IsPart, BeginsWithPart, HasParts, IsDeclaration}
 use Rattle.xc_elements.proofs.FrontLaws.{split, same_answer, exactly_whole, exactly_again}
-use Rattle.xc_elements.proofs.ItemLaws.{part_turn_ends}
+use Rattle.xc_elements.proofs.ItemLaws.{part_or_end_ends}
 use Rattle.xc_elements.proofs.SequenceLaws.{turns_from_ends}
 use Rattle.xc_elements.proofs.Grammar.Attributes.{IsEquals, equals_read, equals_spelled, QuoteRead, quote_read, quote_spelled, quote_stops}
 use Rattle.xc_elements.proofs.Grammar.Kinds.{instruction_rest_kind, as_declaration}
@@ -101,8 +101,8 @@ allowed false text rest u e = absurd cc
 part_read : (text rest : List ℕ) (u : Unit {0}) → part text ≡ Some (u, rest) → IsPart text rest
 unfolding part followed_by
 part_read text rest u e =
-    let n = split (plain_name text) (λ name. equals >> (quote >>= λ mark. run (is_inside mark) >>= λ value. exactly (mark ∷ []) >> cond (may_declare name value) (give tt) refuse)) (u, rest) e in
-    let s = split (equals n.0.1) (λ _. quote >>= λ mark. run (is_inside mark) >>= λ value. exactly (mark ∷ []) >> cond (may_declare n.0.0 value) (give tt) refuse) (u, rest) n.2 in
+    let n = split (plain_name text) (λ name. equals_sign >> (quote >>= λ mark. run (is_inside mark) >>= λ value. exactly (mark ∷ []) >> cond (may_declare name value) (give tt) refuse)) (u, rest) e in
+    let s = split (equals_sign n.0.1) (λ _. quote >>= λ mark. run (is_inside mark) >>= λ value. exactly (mark ∷ []) >> cond (may_declare n.0.0 value) (give tt) refuse) (u, rest) n.2 in
     let q = split (quote s.0.1) (λ mark. run (is_inside mark) >>= λ value. exactly (mark ∷ []) >> cond (may_declare n.0.0 value) (give tt) refuse) (u, rest) s.2 in
     let v = split (run (is_inside q.0.0) q.0.1) (λ value. exactly (q.0.0 ∷ []) >> cond (may_declare n.0.0 value) (give tt) refuse) (u, rest) q.2 in
     let c = split (exactly (q.0.0 ∷ []) v.0.1) (λ _. cond (may_declare n.0.0 v.0.0) (give tt) refuse) (u, rest) v.2 in
@@ -139,7 +139,7 @@ the_end = Last tt
 end_is_no_more : ◌≡◌ {A = Turn Unit Unit} (Last tt) (More tt) → ⊥
 end_is_no_more e = absurd cc
 
-after_spaces_more : (spaces middle after : List ℕ) → by_next (part_turn_at spaces) middle ≡ Some (More tt, after) → (spaces ≢ []) × IsPart middle after
+after_spaces_more : (spaces middle after : List ℕ) → by_next (part_or_end_by spaces) middle ≡ Some (More tt, after) → (spaces ≢ []) × IsPart middle after
 unfolding by_next one followed_by give refuse
 after_spaces_more spaces [] after e = absurd cc
 after_spaces_more spaces (c ∷ cs) after e =
@@ -155,7 +155,7 @@ after_spaces_more spaces (c ∷ cs) after e =
           ]
     ]
 
-after_spaces_last : (spaces middle rest : List ℕ) → by_next (part_turn_at spaces) middle ≡ Some (Last tt, rest) → middle ≡ codes "?>" ++ rest
+after_spaces_last : (spaces middle rest : List ℕ) → by_next (part_or_end_by spaces) middle ≡ Some (Last tt, rest) → middle ≡ codes "?>" ++ rest
 unfolding by_next one followed_by give refuse
 after_spaces_last spaces [] rest e = absurd cc
 after_spaces_last spaces (c ∷ cs) rest e =
@@ -181,19 +181,19 @@ with_part text spaces middle after t h = record { spaces = spaces; spaced = midd
 closed_by : (text spaces middle rest : List ℕ) → IsRun is_space text spaces middle → middle ≡ codes "?>" ++ rest → Closes (codes "?>") text rest
 closed_by text spaces middle rest t e = record { spaces = spaces; whole = t.whole ∙ ap (λ (z : List ℕ). spaces ++ z) e; white = t.each }
 
-turn_read : (text after : List ℕ) → part_turn text ≡ Some (More tt, after) → BeginsWithPart text after
-unfolding part_turn followed_by
+turn_read : (text after : List ℕ) → part_or_end text ≡ Some (More tt, after) → BeginsWithPart text after
+unfolding part_or_end followed_by
 turn_read text after e =
-    let s = split (run is_space text) (λ spaces. by_next (part_turn_at spaces)) (one_more, after) e in
+    let s = split (run is_space text) (λ spaces. by_next (part_or_end_by spaces)) (one_more, after) e in
     with_part text s.0.0 s.0.1 after (run_read is_space text s.0.0 s.0.1 s.1) (after_spaces_more s.0.0 s.0.1 after s.2)
 
-last_read : (text rest : List ℕ) → part_turn text ≡ Some (Last tt, rest) → Closes (codes "?>") text rest
-unfolding part_turn followed_by
+last_read : (text rest : List ℕ) → part_or_end text ≡ Some (Last tt, rest) → Closes (codes "?>") text rest
+unfolding part_or_end followed_by
 last_read text rest e =
-    let s = split (run is_space text) (λ spaces. by_next (part_turn_at spaces)) (the_end, rest) e in
+    let s = split (run is_space text) (λ spaces. by_next (part_or_end_by spaces)) (the_end, rest) e in
     closed_by text s.0.0 s.0.1 rest (run_read is_space text s.0.0 s.0.1 s.1) (after_spaces_last s.0.0 s.0.1 rest s.2)
 
-parts_read : (xs : List (Unit {0})) (text rest : List ℕ) → Steps part_turn xs text tt rest → HasParts (length xs) text rest
+parts_read : (xs : List (Unit {0})) (text rest : List ℕ) → Steps part_or_end xs text tt rest → HasParts (length xs) text rest
 parts_read [] text rest h = last_read text rest h
 parts_read (x ∷ xs) text rest h = (h.0, turn_read text h.0 h.1.taken, parts_read xs h.0 rest h.2)
 
@@ -201,8 +201,8 @@ question_starts_none : is_name_start 63 ≡ false
 unfolding is_name_start
 question_starts_none = refl
 
-turn_at_start : (spaces : List ℕ) (c : ℕ) (cs after : List ℕ) → AreSpaces spaces → spaces ≢ [] → is_name_start c ≡ true → part (c ∷ cs) ≡ Some (tt, after) → part_turn (spaces ++ (c ∷ cs)) ≡ Some (More tt, after)
-unfolding part_turn followed_by by_next one give
+turn_at_start : (spaces : List ℕ) (c : ℕ) (cs after : List ℕ) → AreSpaces spaces → spaces ≢ [] → is_name_start c ≡ true → part (c ∷ cs) ≡ Some (tt, after) → part_or_end (spaces ++ (c ∷ cs)) ≡ Some (More tt, after)
+unfolding part_or_end followed_by by_next one give
 turn_at_start spaces c cs after white some start e =
     rw (run_spelled is_space spaces (c ∷ cs) white (start_is_no_space c start), start_differs c 63 start question_starts_none, nil_not spaces some, e) refl
 
@@ -211,15 +211,15 @@ part_first text after h =
     let f = plain_first h.name _ h.plain in
     record { first = f.first; others = f.others; whole = h.whole ∙ f.whole; start = f.start }
 
-turn_spelled : (text after : List ℕ) → BeginsWithPart text after → part_turn text ≡ Some (More tt, after)
+turn_spelled : (text after : List ℕ) → BeginsWithPart text after → part_or_end text ≡ Some (More tt, after)
 turn_spelled text after h =
     let f = part_first h.spaced after h.part in
     let whole = h.whole ∙ ap (λ (z : List ℕ). h.spaces ++ z) f.whole in
     let found = ap part (sym f.whole) ∙ part_spelled h.spaced after h.part in
-    ap part_turn whole ∙ turn_at_start h.spaces f.first f.others after h.white h.some f.start found
+    ap part_or_end whole ∙ turn_at_start h.spaces f.first f.others after h.white h.some f.start found
 
-closed_spelled : (spaces rest : List ℕ) → AreSpaces spaces → part_turn (spaces ++ (63 ∷ (62 ∷ rest))) ≡ Some (Last tt, rest)
-unfolding part_turn followed_by by_next one give exactly
+closed_spelled : (spaces rest : List ℕ) → AreSpaces spaces → part_or_end (spaces ++ (63 ∷ (62 ∷ rest))) ≡ Some (Last tt, rest)
+unfolding part_or_end followed_by by_next one give exactly
 closed_spelled spaces rest white = rw (run_spelled is_space spaces (63 ∷ (62 ∷ rest)) white refl) refl
 
 -- a list of so many
@@ -227,8 +227,8 @@ abbrev pub so_many : ℕ → List (Unit {0})
 so_many zero = []
 so_many (suc n) = tt ∷ so_many n
 
-parts_spelled : (n : ℕ) (text rest : List ℕ) → HasParts n text rest → Steps part_turn (so_many n) text tt rest
-parts_spelled zero text rest h = ap part_turn h.whole ∙ closed_spelled h.spaces rest h.white
+parts_spelled : (n : ℕ) (text rest : List ℕ) → HasParts n text rest → Steps part_or_end (so_many n) text tt rest
+parts_spelled zero text rest h = ap part_or_end h.whole ∙ closed_spelled h.spaces rest h.white
 parts_spelled (suc n) text rest h = (h.0, record { taken = turn_spelled text h.0 h.1 }, parts_spelled n h.0 rest h.2)
 
 -- ---- the declaration
@@ -240,9 +240,9 @@ record PartsRead (text rest : List ℕ) : Type 0 where
 declaration_read : (text rest : List ℕ) → declaration text ≡ Some (Declaration, rest) → PartsRead text rest
 unfolding declaration followed_by give
 declaration_read text rest e =
-    let s = split (sequence part_turn text) (λ _. give Declaration) (Declaration, rest) e in
+    let s = split (sequence part_or_end text) (λ _. give Declaration) (Declaration, rest) e in
     let same = same_answer Declaration Declaration s.0.1 rest s.2 in
-    let found = parts_read s.0.0.0 text s.0.1 (sequence_read part_turn text s.0.0 s.0.1 s.1) in
+    let found = parts_read s.0.0.0 text s.0.1 (sequence_read part_or_end text s.0.0 s.0.1 s.1) in
     record { count = length s.0.0.0; parts = subst (λ (z : List ℕ). HasParts (length s.0.0.0) text z) same.1 found }
 
 no_instruction : (text rest : List ℕ) → instruction_rest text ≡ Some (Declaration, rest) → ⊥
@@ -301,7 +301,7 @@ xml_is_plain = (refl, (refl, (refl, tt)))
 
 declaration_spelled : (n : ℕ) (text rest : List ℕ) → HasParts n text rest → declaration text ≡ Some (Declaration, rest)
 unfolding declaration followed_by give
-declaration_spelled n text rest h = rw (sequence_spelled part_turn (turns_from_ends part_turn_ends) (so_many n) text tt rest (parts_spelled n text rest h)) refl
+declaration_spelled n text rest h = rw (sequence_spelled part_or_end (turns_from_ends part_or_end_ends) (so_many n) text tt rest (parts_spelled n text rest h)) refl
 
 first_instruction : (after rest : List ℕ) → Stops is_name_char after → declaration after ≡ Some (Declaration, rest) → item true (codes "<?xml" ++ after) ≡ Some (Declaration, rest)
 unfolding item markup instruction followed_by by_next one exactly

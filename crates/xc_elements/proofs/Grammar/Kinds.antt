@@ -3,7 +3,7 @@ use Rattle.std.proofs.Common.{◌≡◌, ℕ, Bool, true, false, cond, List, [],
 use Rattle.std.specs.Prelude.{codes, ◌==◌, if◌then◌else◌, ◌&&◌}
 use Rattle.xc_chars.specs.Characters.{is_character, is_space}
 use Rattle.xc_elements.specs.Fronts.{Front, followed_by, ◌>>=◌, ◌>>◌, give, refuse, one, by_next, exactly, run, up_to, sequence}
-use Rattle.xc_elements.specs.Items.{Name, Pair, Meaning, Declaration, Start, Empty, End, Comment, Instruction, Section, Letter, Reference, spells, spells_in_any_case, plain_name, qualified_name, reference, tag_rest, part_turn, tag, end_tag, declaration, instruction_rest, behind_target, instruction, comment, section}
+use Rattle.xc_elements.specs.Items.{Name, Pair, Meaning, Declaration, Start, Empty, End, Comment, Instruction, Section, Letter, Reference, spells, spells_in_any_case, plain_name, qualified_name, reference, tag_rest, part_or_end, tag, end_tag, declaration, instruction_rest, behind_target, instruction, comment, section}
 use Rattle.xc_elements.proofs.FrontLaws.{split, same_answer}
 use Rattle.xc_elements.proofs.Grammar.Shapes.{chosen_front, Shape, AsEnd, AsInstruction, AsComment, AsSection, AsTag, AsReference, AsLetter}
 
@@ -54,7 +54,7 @@ tag_kind text m rest e =
 pub declaration_kind : (text : List ℕ) (m : Meaning) (rest : List ℕ) → declaration text ≡ Some (m, rest) → kind m ≡ 0
 unfolding declaration followed_by give
 declaration_kind text m rest e =
-    let s = split (sequence part_turn text) (λ _. give Declaration) (m, rest) e in
+    let s = split (sequence part_or_end text) (λ _. give Declaration) (m, rest) e in
     ap kind (sym (same_answer Declaration m s.0.1 rest s.2).0)
 
 pub instruction_rest_kind : (text : List ℕ) (m : Meaning) (rest : List ℕ) → instruction_rest text ≡ Some (m, rest) → kind m ≡ 5

@@ -4,7 +4,7 @@ use Rattle.std.specs.Prelude.{codes, option_map, ◌==◌, ◌||◌}
 use Rattle.std.proofs.lemmas.Bool.{or_cases}
 use Rattle.xc_chars.specs.Characters.{is_space, is_name_start, is_name_char}
 use Rattle.xc_elements.specs.Fronts.{followed_by, ◌>>=◌, give, refuse, one, by_next, past, put_before, run}
-use Rattle.xc_elements.specs.Items.{Name, prefixed, unprefixed, plain_name, qualified_name}
+use Rattle.xc_elements.specs.Items.{Name, prefixed_name, unprefixed_name, plain_name, qualified_name}
 use Rattle.xc_elements.specs.Grammar.Words.{Each, AreSpaces, IsPlainName, IsName}
 use Rattle.xc_elements.proofs.FrontLaws.{split, chosen, mapped, same_answer}
 use Rattle.xc_elements.proofs.Grammar.Shapes.{chosen_front}
@@ -92,28 +92,28 @@ pub record NameRead (text : List ℕ) (name : Name) (rest : List ℕ) : Type 0 w
   pub whole : text ≡ written ++ rest
   pub named : IsName written name
 
-unprefixed_read : (text first after : List ℕ) → PlainRead text first after → NameRead text (unprefixed first) after
+unprefixed_read : (text first after : List ℕ) → PlainRead text first after → NameRead text (unprefixed_name first) after
 unprefixed_read text first after t = record { written = first; whole = t.whole; named = inl (record { bare = refl; whole = refl; local = t.plain }) }
 
-prefixed_read : (text first after local rest : List ℕ) → PlainRead text first (codes ":" ++ after) → PlainRead after local rest → NameRead text (prefixed first local) rest
+prefixed_read : (text first after local rest : List ℕ) → PlainRead text first (codes ":" ++ after) → PlainRead after local rest → NameRead text (prefixed_name first local) rest
 prefixed_read text first after local rest t u = record {
   written = first ++ (codes ":" ++ local);
   whole = t.whole ∙ ap (λ (z : List ℕ). first ++ (codes ":" ++ z)) u.whole ∙ sym (append_assoc first (codes ":" ++ local) rest);
   named = inr (record { whole = refl; prefix = t.plain; local = u.plain });
 }
 
-behind_name : (text first after : List ℕ) (name : Name) (rest : List ℕ) → PlainRead text first after → by_next (λ c. cond (c == 58) (past (plain_name >>= λ local. give (prefixed first local))) (give (unprefixed first))) after ≡ Some (name, rest) → NameRead text name rest
+behind_name : (text first after : List ℕ) (name : Name) (rest : List ℕ) → PlainRead text first after → by_next (λ c. cond (c == 58) (past (plain_name >>= λ local. give (prefixed_name first local))) (give (unprefixed_name first))) after ≡ Some (name, rest) → NameRead text name rest
 unfolding by_next one followed_by give
 behind_name text first [] name rest t e = absurd cc
 behind_name text first (c ∷ cs) name rest t e =
-    elim (chosen_front (c == 58) (past (plain_name >>= λ local. give (prefixed first local))) (give (unprefixed first)) (c ∷ cs) (Some (name, rest)) e) [
+    elim (chosen_front (c == 58) (past (plain_name >>= λ local. give (prefixed_name first local))) (give (unprefixed_name first)) (c ∷ cs) (Some (name, rest)) e) [
       | inl h ↦
-          let s = split (plain_name cs) (λ local. give (prefixed first local)) (name, rest) h.1 in
-          let same = same_answer (prefixed first s.0.0) name s.0.1 rest s.2 in
+          let s = split (plain_name cs) (λ local. give (prefixed_name first local)) (name, rest) h.1 in
+          let same = same_answer (prefixed_name first s.0.0) name s.0.1 rest s.2 in
           let front = subst (λ (d : ℕ). PlainRead text first (d ∷ cs)) (eqb-true c 58 h.0) t in
           let found = prefixed_read text first cs s.0.0 s.0.1 front (plain_name_read cs s.0.0 s.0.1 s.1) in
-          name_is text (prefixed first s.0.0) name s.0.1 rest same found
-      | inr h ↦ let same = same_answer (unprefixed first) name (c ∷ cs) rest h.1 in name_is text (unprefixed first) name (c ∷ cs) rest same (unprefixed_read text first (c ∷ cs) t)
+          name_is text (prefixed_name first s.0.0) name s.0.1 rest same found
+      | inr h ↦ let same = same_answer (unprefixed_name first) name (c ∷ cs) rest h.1 in name_is text (unprefixed_name first) name (c ∷ cs) rest same (unprefixed_read text first (c ∷ cs) t)
     ]
   where
     name_is : (text : List ℕ) (a b : Name) (r s : List ℕ) → (a ≡ b) × (r ≡ s) → NameRead text a r → NameRead text b s
@@ -122,14 +122,14 @@ behind_name text first (c ∷ cs) name rest t e =
 pub qualified_name_read : (text : List ℕ) (name : Name) (rest : List ℕ) → qualified_name text ≡ Some (name, rest) → NameRead text name rest
 unfolding qualified_name followed_by
 qualified_name_read text name rest e =
-    let s = split (plain_name text) (λ first. by_next (λ c. cond (c == 58) (past (plain_name >>= λ local. give (prefixed first local))) (give (unprefixed first)))) (name, rest) e in
+    let s = split (plain_name text) (λ first. by_next (λ c. cond (c == 58) (past (plain_name >>= λ local. give (prefixed_name first local))) (give (unprefixed_name first)))) (name, rest) e in
     behind_name text s.0.0 s.0.1 name rest (plain_name_read text s.0.0 s.0.1 s.1) s.2
 
 -- a character stands there that goes on with no name
 abbrev pub EndsName : List ℕ → Type 0
 EndsName rest = Stops is_name_char rest × Stops is_colon rest
 
-unprefixed_spelled : (first rest : List ℕ) → IsPlainName first → EndsName rest → qualified_name (first ++ rest) ≡ Some (unprefixed first, rest)
+unprefixed_spelled : (first rest : List ℕ) → IsPlainName first → EndsName rest → qualified_name (first ++ rest) ≡ Some (unprefixed_name first, rest)
 unfolding qualified_name followed_by by_next one give
 unprefixed_spelled first [] h ends = absurd ends.0
 unprefixed_spelled first (c ∷ cs) h ends = rw (plain_name_spelled first (c ∷ cs) h ends.0, ends.1) refl
@@ -138,13 +138,13 @@ colon_stops : is_name_char 58 ≡ false
 unfolding is_name_char is_name_start
 colon_stops = refl
 
-prefixed_spelled : (first local rest : List ℕ) → IsPlainName first → IsPlainName local → EndsName rest → qualified_name (first ++ (58 ∷ (local ++ rest))) ≡ Some (prefixed first local, rest)
+prefixed_spelled : (first local rest : List ℕ) → IsPlainName first → IsPlainName local → EndsName rest → qualified_name (first ++ (58 ∷ (local ++ rest))) ≡ Some (prefixed_name first local, rest)
 unfolding qualified_name followed_by by_next one give
 prefixed_spelled first local rest h k ends = rw (plain_name_spelled first (58 ∷ (local ++ rest)) h colon_stops, plain_name_spelled local rest k ends.0) refl
 
 pub qualified_name_spelled : (written : List ℕ) (name : Name) (rest : List ℕ) → IsName written name → EndsName rest → qualified_name (written ++ rest) ≡ Some (name, rest)
 qualified_name_spelled written name rest (inl h) ends =
-    let same : unprefixed name.local ≡ name = (λ i. record { prefix = sym h.bare i; local = name.local }) in
+    let same : unprefixed_name name.local ≡ name = (λ i. record { prefix = sym h.bare i; local = name.local }) in
     ap (λ (z : List ℕ). qualified_name (z ++ rest)) h.whole ∙ unprefixed_spelled name.local rest h.local ends ∙ ap (λ (n : Name). Some (n, rest)) same
 qualified_name_spelled written name rest (inr h) ends =
     ap (λ (z : List ℕ). qualified_name (z ++ rest)) h.whole

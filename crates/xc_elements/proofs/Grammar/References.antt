@@ -217,17 +217,17 @@ pub record ReferenceRead (text : List ℕ) (c : ℕ) (rest : List ℕ) : Type 0 
   pub whole : text ≡ name ++ (codes ";" ++ rest)
   pub meant : StandsFor name c
 
-given : (o : Option ℕ) (text : List ℕ) (c : ℕ) (rest : List ℕ) → give_some o text ≡ Some (c, rest) → (o ≡ Some c) × (text ≡ rest)
+given_of : (o : Option ℕ) (text : List ℕ) (c : ℕ) (rest : List ℕ) → give_some o text ≡ Some (c, rest) → (o ≡ Some c) × (text ≡ rest)
 unfolding give refuse
-given None text c rest e = absurd cc
-given (Some d) text c rest e = let same = same_answer d c text rest e in (ap (λ x. Some x) same.0, same.1)
+given_of None text c rest e = absurd cc
+given_of (Some d) text c rest e = let same = same_answer d c text rest e in (ap (λ x. Some x) same.0, same.1)
 
 -- what is read behind an ampersand is spelled so
 pub reference_read : (text : List ℕ) (c : ℕ) (rest : List ℕ) → reference text ≡ Some (c, rest) → ReferenceRead text c rest
 unfolding reference followed_by
 reference_read text c rest e =
     let s = split (up_to (codes ";") text) (λ name. give_some (referent name)) (c, rest) e in
-    let g = given (referent s.0.0) s.0.1 c rest s.2 in
+    let g = given_of (referent s.0.0) s.0.1 c rest s.2 in
     let t = first_mark (codes ";") (omega arith) text s.0.0 s.0.1 s.1 in
     record { name = s.0.0; whole = t.whole ∙ ap (λ (z : List ℕ). s.0.0 ++ (codes ";" ++ z)) g.1; meant = referent_read s.0.0 c g.0 }
 

@@ -4,12 +4,12 @@ use Rattle.std.specs.Prelude.{codes, ◌↔◌, ◌==◌}
 use Rattle.std.proofs.lemmas.Bool.{false_from_ne_true}
 use Rattle.xc_chars.specs.Characters.{is_space, is_name_start, is_name_char}
 use Rattle.xc_elements.specs.Fronts.{followed_by, ◌>>=◌, ◌>>◌, give, refuse, one, by_next, past, exactly, run, Turn, More, Last, sequence}
-use Rattle.xc_elements.specs.Items.{Name, Pair, Meaning, Start, Empty, is_nil, qualified_name, attribute, tag_turn_at, tag_turn, tag_rest, tag, markup, item}
+use Rattle.xc_elements.specs.Items.{Name, Pair, Meaning, Start, Empty, is_nil, qualified_name, attribute, attribute_or_end_by, attribute_or_end, tag_rest, tag, markup, item}
 use Rattle.xc_elements.specs.Grammar.Words.{AreSpaces, IsPlainName, IsName}
 use Rattle.xc_elements.specs.Grammar.Attributes.{IsAttribute}
 use Rattle.xc_elements.specs.Grammar.Tags.{Closes, BeginsWithAttribute, HasAttributes, IsTag}
 use Rattle.xc_elements.proofs.FrontLaws.{split, same_answer, exactly_whole}
-use Rattle.xc_elements.proofs.ItemLaws.{tag_turn_ends}
+use Rattle.xc_elements.proofs.ItemLaws.{attribute_or_end_ends}
 use Rattle.xc_elements.proofs.SequenceLaws.{turns_from_ends}
 use Rattle.xc_elements.proofs.Grammar.Attributes.{attribute_holds}
 use Rattle.xc_elements.proofs.Grammar.Kinds.{as_start, as_empty}
@@ -49,7 +49,7 @@ nil_not (c ∷ cs) h = refl
 closed_by : (text spaces middle rest : List ℕ) (b : Bool) → IsRun is_space text spaces middle → middle ≡ closing b ++ rest → Closes (closing b) text rest
 closed_by text spaces middle rest b t e = record { spaces = spaces; whole = t.whole ∙ ap (λ (z : List ℕ). spaces ++ z) e; white = t.each }
 
-after_spaces_more : (spaces middle : List ℕ) (p : Pair) (after : List ℕ) → by_next (tag_turn_at spaces) middle ≡ Some (More p, after) → (spaces ≢ []) × (attribute middle ≡ Some (p, after))
+after_spaces_more : (spaces middle : List ℕ) (p : Pair) (after : List ℕ) → by_next (attribute_or_end_by spaces) middle ≡ Some (More p, after) → (spaces ≢ []) × (attribute middle ≡ Some (p, after))
 unfolding by_next one followed_by give refuse
 after_spaces_more spaces [] p after e = absurd cc
 after_spaces_more spaces (c ∷ cs) p after e =
@@ -82,7 +82,7 @@ slash_read c cs b rest on whole same =
     let end = same_end true b same in
     (λ i. first i ∷ whole i) ∙ ap (λ (d : Bool). closing d ++ rest) end
 
-after_spaces_last : (spaces middle : List ℕ) (b : Bool) (rest : List ℕ) → by_next (tag_turn_at spaces) middle ≡ Some (Last b, rest) → middle ≡ closing b ++ rest
+after_spaces_last : (spaces middle : List ℕ) (b : Bool) (rest : List ℕ) → by_next (attribute_or_end_by spaces) middle ≡ Some (Last b, rest) → middle ≡ closing b ++ rest
 unfolding by_next one followed_by give refuse
 after_spaces_last spaces [] b rest e = absurd cc
 after_spaces_last spaces (c ∷ cs) b rest e =
@@ -107,19 +107,19 @@ after_spaces_last spaces (c ∷ cs) b rest e =
 with_attribute : (text spaces middle : List ℕ) (p : Pair) (after : List ℕ) → IsRun is_space text spaces middle → (spaces ≢ []) × (attribute middle ≡ Some (p, after)) → BeginsWithAttribute text p after
 with_attribute text spaces middle p after t h = record { spaces = spaces; spaced = middle; whole = t.whole; some = h.0; white = t.each; attribute = (attribute_holds middle p after).0 h.1 }
 
-turn_read : (text : List ℕ) (p : Pair) (after : List ℕ) → tag_turn text ≡ Some (More p, after) → BeginsWithAttribute text p after
-unfolding tag_turn followed_by
+turn_read : (text : List ℕ) (p : Pair) (after : List ℕ) → attribute_or_end text ≡ Some (More p, after) → BeginsWithAttribute text p after
+unfolding attribute_or_end followed_by
 turn_read text p after e =
-    let s = split (run is_space text) (λ spaces. by_next (tag_turn_at spaces)) (pairs_on p, after) e in
+    let s = split (run is_space text) (λ spaces. by_next (attribute_or_end_by spaces)) (pairs_on p, after) e in
     with_attribute text s.0.0 s.0.1 p after (run_read is_space text s.0.0 s.0.1 s.1) (after_spaces_more s.0.0 s.0.1 p after s.2)
 
-last_read : (text : List ℕ) (b : Bool) (rest : List ℕ) → tag_turn text ≡ Some (Last b, rest) → Closes (closing b) text rest
-unfolding tag_turn followed_by
+last_read : (text : List ℕ) (b : Bool) (rest : List ℕ) → attribute_or_end text ≡ Some (Last b, rest) → Closes (closing b) text rest
+unfolding attribute_or_end followed_by
 last_read text b rest e =
-    let s = split (run is_space text) (λ spaces. by_next (tag_turn_at spaces)) (ends b, rest) e in
+    let s = split (run is_space text) (λ spaces. by_next (attribute_or_end_by spaces)) (ends b, rest) e in
     closed_by text s.0.0 s.0.1 rest b (run_read is_space text s.0.0 s.0.1 s.1) (after_spaces_last s.0.0 s.0.1 b rest s.2)
 
-attributes_read : (pairs : List Pair) (text : List ℕ) (b : Bool) (rest : List ℕ) → Steps tag_turn pairs text b rest → HasAttributes (closing b) pairs text rest
+attributes_read : (pairs : List Pair) (text : List ℕ) (b : Bool) (rest : List ℕ) → Steps attribute_or_end pairs text b rest → HasAttributes (closing b) pairs text rest
 attributes_read [] text b rest h = last_read text b rest h
 attributes_read (p ∷ ps) text b rest h = (h.0, turn_read text p h.0 h.1.taken, attributes_read ps h.0 b rest h.2)
 
@@ -143,9 +143,9 @@ tag_read : (text : List ℕ) (m : Meaning) (rest : List ℕ) → tag text ≡ So
 unfolding tag tag_rest followed_by give
 tag_read text m rest e =
     let n = split (qualified_name text) (λ name. tag_rest >>= λ body. give (meaning_of body.1 name body.0)) (m, rest) e in
-    let u = split (sequence tag_turn n.0.1) (λ body. give (meaning_of body.1 n.0.0 body.0)) (m, rest) n.2 in
+    let u = split (sequence attribute_or_end n.0.1) (λ body. give (meaning_of body.1 n.0.0 body.0)) (m, rest) n.2 in
     let same = same_answer (meaning_of u.0.0.1 n.0.0 u.0.0.0) m u.0.1 rest u.2 in
-    let found = attributes_read u.0.0.0 n.0.1 u.0.0.1 u.0.1 (sequence_read tag_turn n.0.1 u.0.0 u.0.1 u.1) in
+    let found = attributes_read u.0.0.0 n.0.1 u.0.0.1 u.0.1 (sequence_read attribute_or_end n.0.1 u.0.0 u.0.1 u.1) in
     record {
       is_empty = u.0.0.1;
       name = n.0.0;
@@ -223,25 +223,25 @@ marks_start_none : (is_name_start 62 ≡ false) × (is_name_start 47 ≡ false) 
 unfolding is_name_start
 marks_start_none = (refl, refl, refl, refl)
 
-turn_at_start : (spaces : List ℕ) (c : ℕ) (cs : List ℕ) (p : Pair) (after : List ℕ) → AreSpaces spaces → spaces ≢ [] → is_name_start c ≡ true → attribute (c ∷ cs) ≡ Some (p, after) → tag_turn (spaces ++ (c ∷ cs)) ≡ Some (More p, after)
-unfolding tag_turn followed_by by_next one give
+turn_at_start : (spaces : List ℕ) (c : ℕ) (cs : List ℕ) (p : Pair) (after : List ℕ) → AreSpaces spaces → spaces ≢ [] → is_name_start c ≡ true → attribute (c ∷ cs) ≡ Some (p, after) → attribute_or_end (spaces ++ (c ∷ cs)) ≡ Some (More p, after)
+unfolding attribute_or_end followed_by by_next one give
 turn_at_start spaces c cs p after white some start e =
     rw (run_spelled is_space spaces (c ∷ cs) white (start_is_no_space c start), start_differs c 62 start marks_start_none.0, start_differs c 47 start marks_start_none.1, nil_not spaces some, e) refl
 
-turn_spelled : (text : List ℕ) (p : Pair) (after : List ℕ) → BeginsWithAttribute text p after → tag_turn text ≡ Some (More p, after)
+turn_spelled : (text : List ℕ) (p : Pair) (after : List ℕ) → BeginsWithAttribute text p after → attribute_or_end text ≡ Some (More p, after)
 turn_spelled text p after h =
     let f = attribute_first h.spaced p after h.attribute in
     let whole = h.whole ∙ ap (λ (z : List ℕ). h.spaces ++ z) f.whole in
     let found = ap attribute (sym f.whole) ∙ (attribute_holds h.spaced p after).1 h.attribute in
-    ap tag_turn whole ∙ turn_at_start h.spaces f.first f.others p after h.white h.some f.start found
+    ap attribute_or_end whole ∙ turn_at_start h.spaces f.first f.others p after h.white h.some f.start found
 
-closed_spelled : (b : Bool) (spaces rest : List ℕ) → AreSpaces spaces → tag_turn (spaces ++ (closing b ++ rest)) ≡ Some (Last b, rest)
-unfolding tag_turn followed_by by_next one give exactly
+closed_spelled : (b : Bool) (spaces rest : List ℕ) → AreSpaces spaces → attribute_or_end (spaces ++ (closing b ++ rest)) ≡ Some (Last b, rest)
+unfolding attribute_or_end followed_by by_next one give exactly
 closed_spelled true spaces rest white = rw (run_spelled is_space spaces (47 ∷ (62 ∷ rest)) white refl) refl
 closed_spelled false spaces rest white = rw (run_spelled is_space spaces (62 ∷ rest) white refl) refl
 
-attributes_spelled : (pairs : List Pair) (text : List ℕ) (b : Bool) (rest : List ℕ) → HasAttributes (closing b) pairs text rest → Steps tag_turn pairs text b rest
-attributes_spelled [] text b rest h = ap tag_turn h.whole ∙ closed_spelled b h.spaces rest h.white
+attributes_spelled : (pairs : List Pair) (text : List ℕ) (b : Bool) (rest : List ℕ) → HasAttributes (closing b) pairs text rest → Steps attribute_or_end pairs text b rest
+attributes_spelled [] text b rest h = ap attribute_or_end h.whole ∙ closed_spelled b h.spaces rest h.white
 attributes_spelled (p ∷ ps) text b rest h = (h.0, record { taken = turn_spelled text p h.0 h.1 }, attributes_spelled ps h.0 b rest h.2)
 
 closing_ends_name : (b : Bool) (rest : List ℕ) → EndsName (closing b ++ rest)
@@ -260,7 +260,7 @@ attributes_end_name (p ∷ ps) text b rest h = subst EndsName (sym h.1.whole) (s
 tag_spelled : (written after : List ℕ) (name : Name) (pairs : List Pair) (b : Bool) (rest : List ℕ) → IsName written name → HasAttributes (closing b) pairs after rest → tag (written ++ after) ≡ Some (meaning_of b name pairs, rest)
 unfolding tag tag_rest followed_by give
 tag_spelled written after name pairs b rest n h =
-    rw (qualified_name_spelled written name after n (attributes_end_name pairs after b rest h), sequence_spelled tag_turn (turns_from_ends tag_turn_ends) pairs after b rest (attributes_spelled pairs after b rest h)) refl
+    rw (qualified_name_spelled written name after n (attributes_end_name pairs after b rest h), sequence_spelled attribute_or_end (turns_from_ends attribute_or_end_ends) pairs after b rest (attributes_spelled pairs after b rest h)) refl
 
 markup_at_start : (is_first : Bool) (c : ℕ) (cs : List ℕ) → is_name_start c ≡ true → item is_first (60 ∷ (c ∷ cs)) ≡ tag (c ∷ cs)
 unfolding item markup followed_by by_next one

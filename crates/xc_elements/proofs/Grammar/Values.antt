@@ -4,7 +4,7 @@ use Rattle.std.specs.Prelude.{codes, ◌↔◌, ◌==◌, ◌&&◌, ◌||◌, no
 use Rattle.std.proofs.lemmas.Bool.{and_parts, or_cases, or_parts, not-true}
 use Rattle.xc_chars.specs.Characters.{is_character}
 use Rattle.xc_elements.specs.Fronts.{Front, followed_by, ◌>>=◌, give, refuse, one, by_next, past, Turn, More, Last, sequence}
-use Rattle.xc_elements.specs.Items.{reference, line_end, value_turn, value_until}
+use Rattle.xc_elements.specs.Items.{reference, line_end, character_or_end, value_until}
 use Rattle.xc_elements.specs.Grammar.Values.{IsQuote, Written, Plain, White, LineEnd, Referred, characters_of, meant_by, IsPlain, BeginsWithFeed, IsWhite, MayStand, Stands, AreWritten, IsValue}
 use Rattle.xc_elements.proofs.FrontLaws.{found, split, same_answer}
 use Rattle.xc_elements.proofs.ItemLaws.{value_turns, line_end_goes_on}
@@ -103,8 +103,8 @@ others_read mark c cs r after inside no_reference no_return e =
           ]
     ]
 
-part_read : (mark : ℕ) (text : List ℕ) (r : ℕ) (after : List ℕ) → value_turn mark text ≡ Some (More r, after) → PartRead mark text r after
-unfolding value_turn followed_by one give
+part_read : (mark : ℕ) (text : List ℕ) (r : ℕ) (after : List ℕ) → character_or_end mark text ≡ Some (More r, after) → PartRead mark text r after
+unfolding character_or_end followed_by one give
 part_read mark [] r after e = absurd cc
 part_read mark (c ∷ cs) r after e =
     elim (chosen_front (c == mark) (give (Last tt)) (cond (c == 38) (reference >>= λ r. give (More r)) (cond (c == 13) line_end (others_at c))) cs (Some (More r, after)) e) [
@@ -120,8 +120,8 @@ part_read mark (c ∷ cs) r after e =
           ]
     ]
 
-last_read : (mark : ℕ) (text rest : List ℕ) → value_turn mark text ≡ Some (Last tt, rest) → text ≡ mark ∷ rest
-unfolding value_turn followed_by one give
+last_read : (mark : ℕ) (text rest : List ℕ) → character_or_end mark text ≡ Some (Last tt, rest) → text ≡ mark ∷ rest
+unfolding character_or_end followed_by one give
 last_read mark [] rest e = absurd cc
 last_read mark (c ∷ cs) rest e =
     elim (chosen_front (c == mark) (give (Last tt)) (cond (c == 38) (reference >>= λ r. give (More r)) (cond (c == 13) line_end (others_at c))) cs (Some (Last tt, rest)) e) [
@@ -142,7 +142,7 @@ record PartsRead (mark : ℕ) (text xs rest : List ℕ) : Type 0 where
   pub written : AreWritten mark parts text rest
   pub meant : map meant_by parts ≡ xs
 
-parts_read : (mark : ℕ) (xs text rest : List ℕ) → Steps (value_turn mark) xs text tt rest → PartsRead mark text xs rest
+parts_read : (mark : ℕ) (xs text rest : List ℕ) → Steps (character_or_end mark) xs text tt rest → PartsRead mark text xs rest
 parts_read mark [] text rest h = record { parts = []; written = last_read mark text rest h; meant = refl }
 parts_read mark (x ∷ xs) text rest h =
     let first = part_read mark text x h.0 h.1.taken in
@@ -152,9 +152,9 @@ parts_read mark (x ∷ xs) text rest h =
 value_read : (mark : ℕ) (text value rest : List ℕ) → value_until mark text ≡ Some (value, rest) → IsValue mark text value rest
 unfolding value_until followed_by give
 value_read mark text value rest e =
-    let s = split (sequence (value_turn mark) text) (λ x. give x.0) (value, rest) e in
+    let s = split (sequence (character_or_end mark) text) (λ x. give x.0) (value, rest) e in
     let same = same_answer s.0.0.0 value s.0.1 rest s.2 in
-    let t = parts_read mark s.0.0.0 text s.0.1 (sequence_read (value_turn mark) text s.0.0 s.0.1 s.1) in
+    let t = parts_read mark s.0.0.0 text s.0.1 (sequence_read (character_or_end mark) text s.0.0 s.0.1 s.1) in
     record { parts = t.parts; written = subst (λ (z : List ℕ). AreWritten mark t.parts text z) same.1 t.written; meant = t.meant ∙ same.0 }
 
 -- ---- the other way
@@ -163,41 +163,41 @@ quote_differs : (mark c : ℕ) → IsQuote mark → (c == 34) ≡ false → (c =
 quote_differs mark c (inl q) a b = ap (λ (m : ℕ). c == m) q ∙ a
 quote_differs mark c (inr q) a b = ap (λ (m : ℕ). c == m) q ∙ b
 
-plain_spelled : (mark c : ℕ) (after : List ℕ) → IsPlain mark c → value_turn mark (c ∷ after) ≡ Some (More c, after)
-unfolding value_turn followed_by one give
+plain_spelled : (mark c : ℕ) (after : List ℕ) → IsPlain mark c → character_or_end mark (c ∷ after) ≡ Some (More c, after)
+unfolding character_or_end followed_by one give
 plain_spelled mark c after h = rw (ne_eqb c mark h.inside, ne_eqb c 38 h.no_reference, ne_eqb c 13 h.no_return, ne_eqb c 9 h.no_tab, ne_eqb c 10 h.no_feed, h.character, ne_eqb c 60 h.no_tag) refl
 
-tab_spelled : (mark : ℕ) (after : List ℕ) → IsQuote mark → value_turn mark (9 ∷ after) ≡ Some (More 32, after)
-unfolding value_turn followed_by one give
+tab_spelled : (mark : ℕ) (after : List ℕ) → IsQuote mark → character_or_end mark (9 ∷ after) ≡ Some (More 32, after)
+unfolding character_or_end followed_by one give
 tab_spelled mark after q = rw (quote_differs mark 9 q refl refl) refl
 
-feed_spelled : (mark : ℕ) (after : List ℕ) → IsQuote mark → value_turn mark (10 ∷ after) ≡ Some (More 32, after)
-unfolding value_turn followed_by one give
+feed_spelled : (mark : ℕ) (after : List ℕ) → IsQuote mark → character_or_end mark (10 ∷ after) ≡ Some (More 32, after)
+unfolding character_or_end followed_by one give
 feed_spelled mark after q = rw (quote_differs mark 10 q refl refl) refl
 
-return_spelled : (mark : ℕ) (after : List ℕ) → IsQuote mark → after ≢ [] → ¬ (BeginsWithFeed after) → value_turn mark (13 ∷ after) ≡ Some (More 32, after)
-unfolding value_turn followed_by one give line_end by_next
+return_spelled : (mark : ℕ) (after : List ℕ) → IsQuote mark → after ≢ [] → ¬ (BeginsWithFeed after) → character_or_end mark (13 ∷ after) ≡ Some (More 32, after)
+unfolding character_or_end followed_by one give line_end by_next
 return_spelled mark [] q some apart = absurd (some refl)
 return_spelled mark (d ∷ ds) q some apart = rw (quote_differs mark 13 q refl refl, ne_eqb d 10 apart) refl
 
-line_spelled : (mark : ℕ) (after : List ℕ) → IsQuote mark → value_turn mark (13 ∷ (10 ∷ after)) ≡ Some (More 32, after)
-unfolding value_turn followed_by one give line_end by_next
+line_spelled : (mark : ℕ) (after : List ℕ) → IsQuote mark → character_or_end mark (13 ∷ (10 ∷ after)) ≡ Some (More 32, after)
+unfolding character_or_end followed_by one give line_end by_next
 line_spelled mark after q = rw (quote_differs mark 13 q refl refl) refl
 
-referred_spelled : (mark : ℕ) (name : List ℕ) (c : ℕ) (after : List ℕ) → IsQuote mark → StandsFor name c → value_turn mark (38 ∷ (name ++ (codes ";" ++ after))) ≡ Some (More c, after)
-unfolding value_turn followed_by one give
+referred_spelled : (mark : ℕ) (name : List ℕ) (c : ℕ) (after : List ℕ) → IsQuote mark → StandsFor name c → character_or_end mark (38 ∷ (name ++ (codes ";" ++ after))) ≡ Some (More c, after)
+unfolding character_or_end followed_by one give
 referred_spelled mark name c after q h = rw (quote_differs mark 38 q refl refl, reference_spelled name c after h) refl
 
-white_spelled : (mark c : ℕ) (after : List ℕ) → IsQuote mark → after ≢ [] → IsWhite c after → value_turn mark (c ∷ after) ≡ Some (More 32, after)
-white_spelled mark c after q some (inl e) = ap (λ (z : ℕ). value_turn mark (z ∷ after)) e ∙ tab_spelled mark after q
-white_spelled mark c after q some (inr (inl e)) = ap (λ (z : ℕ). value_turn mark (z ∷ after)) e ∙ feed_spelled mark after q
-white_spelled mark c after q some (inr (inr h)) = ap (λ (z : ℕ). value_turn mark (z ∷ after)) h.0 ∙ return_spelled mark after q some h.1
+white_spelled : (mark c : ℕ) (after : List ℕ) → IsQuote mark → after ≢ [] → IsWhite c after → character_or_end mark (c ∷ after) ≡ Some (More 32, after)
+white_spelled mark c after q some (inl e) = ap (λ (z : ℕ). character_or_end mark (z ∷ after)) e ∙ tab_spelled mark after q
+white_spelled mark c after q some (inr (inl e)) = ap (λ (z : ℕ). character_or_end mark (z ∷ after)) e ∙ feed_spelled mark after q
+white_spelled mark c after q some (inr (inr h)) = ap (λ (z : ℕ). character_or_end mark (z ∷ after)) h.0 ∙ return_spelled mark after q some h.1
 
-part_spelled : (mark : ℕ) (part : Written) (text after : List ℕ) → IsQuote mark → after ≢ [] → Stands mark part text after → value_turn mark text ≡ Some (More (meant_by part), after)
-part_spelled mark (Plain c) text after q some h = ap (value_turn mark) h.whole ∙ plain_spelled mark c after h.fit
-part_spelled mark (White c) text after q some h = ap (value_turn mark) h.whole ∙ white_spelled mark c after q some h.fit
-part_spelled mark LineEnd text after q some h = ap (value_turn mark) h.whole ∙ line_spelled mark after q
-part_spelled mark (Referred name c) text after q some h = ap (value_turn mark) (h.whole ∙ ap (λ (z : List ℕ). 38 ∷ z) (append_assoc name (codes ";") after)) ∙ referred_spelled mark name c after q h.fit
+part_spelled : (mark : ℕ) (part : Written) (text after : List ℕ) → IsQuote mark → after ≢ [] → Stands mark part text after → character_or_end mark text ≡ Some (More (meant_by part), after)
+part_spelled mark (Plain c) text after q some h = ap (character_or_end mark) h.whole ∙ plain_spelled mark c after h.fit
+part_spelled mark (White c) text after q some h = ap (character_or_end mark) h.whole ∙ white_spelled mark c after q some h.fit
+part_spelled mark LineEnd text after q some h = ap (character_or_end mark) h.whole ∙ line_spelled mark after q
+part_spelled mark (Referred name c) text after q some h = ap (character_or_end mark) (h.whole ∙ ap (λ (z : List ℕ). 38 ∷ z) (append_assoc name (codes ";") after)) ∙ referred_spelled mark name c after q h.fit
 
 not_nothing : (text : List ℕ) (c : ℕ) (cs : List ℕ) → text ≡ c ∷ cs → text ≢ []
 not_nothing text c cs e none = let clash = sym e ∙ none in absurd cc
@@ -212,19 +212,19 @@ written_some : (mark : ℕ) (parts : List Written) (text rest : List ℕ) → Ar
 written_some mark [] text rest h = not_nothing text mark rest h
 written_some mark (p ∷ ps) text rest h = part_some mark p text h.0 h.1
 
-quote_last : (mark : ℕ) (rest : List ℕ) → value_turn mark (mark ∷ rest) ≡ Some (Last tt, rest)
-unfolding value_turn followed_by one give
+quote_last : (mark : ℕ) (rest : List ℕ) → character_or_end mark (mark ∷ rest) ≡ Some (Last tt, rest)
+unfolding character_or_end followed_by one give
 quote_last mark rest = rw (eq-eqb mark mark refl) refl
 
-parts_spelled : (mark : ℕ) (parts : List Written) (text rest : List ℕ) → IsQuote mark → AreWritten mark parts text rest → Steps (value_turn mark) (map meant_by parts) text tt rest
-parts_spelled mark [] text rest q h = ap (value_turn mark) h ∙ quote_last mark rest
+parts_spelled : (mark : ℕ) (parts : List Written) (text rest : List ℕ) → IsQuote mark → AreWritten mark parts text rest → Steps (character_or_end mark) (map meant_by parts) text tt rest
+parts_spelled mark [] text rest q h = ap (character_or_end mark) h ∙ quote_last mark rest
 parts_spelled mark (p ∷ ps) text rest q h =
     (h.0, record { taken = part_spelled mark p text h.0 q (written_some mark ps h.0 rest h.2) h.1 }, parts_spelled mark ps h.0 rest q h.2)
 
 value_spelled : (mark : ℕ) (text value rest : List ℕ) → IsQuote mark → IsValue mark text value rest → value_until mark text ≡ Some (value, rest)
 unfolding value_until followed_by give
 value_spelled mark text value rest q h =
-    rw (sequence_spelled (value_turn mark) (value_turns mark) (map meant_by h.parts) text tt rest (parts_spelled mark h.parts text rest q h.written))
+    rw (sequence_spelled (character_or_end mark) (value_turns mark) (map meant_by h.parts) text tt rest (parts_spelled mark h.parts text rest q h.written))
     (ap (λ (z : List ℕ). Some (z, rest)) h.meant)
 
 pub value_holds : (mark : ℕ) (text value rest : List ℕ) → IsQuote mark → (value_until mark text ≡ Some (value, rest)) ↔ IsValue mark text value rest

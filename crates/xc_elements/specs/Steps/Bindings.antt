@@ -5,13 +5,13 @@ use Rattle.std.specs.BTreeMap.{BTreeMap, get_by}
 use Rattle.std.specs.Ordering.{nat_cmp}
 use Rattle.std.specs.Cmp.Lexicographic.{slice_cmp}
 use Rattle.std.specs.Str.{bytes_eq}
-use Rattle.xc_elements.specs.Views.{lent}
+use Rattle.xc_elements.specs.Steps.Views.{lent_text}
 use Rattle.xc_elements.specs.Namespaces.{Binding}
 use Rattle.xc_elements.specs.declared.scope.BoundPrefix.{BoundPrefix}
 
 -- the binding that a bound prefix stands for
 abbrev pub binding_view : BoundPrefix → Binding
-binding_view b = record { prefix = lent b.prefix; space = b.space }
+binding_view b = record { prefix = lent_text b.prefix; space = b.space }
 
 -- of bindings, the nearest first: how many are outside the nearest of a prefix, which is its place from the other end
 abbrev pub place_of : List ℕ → List BoundPrefix → Option ℕ
@@ -21,7 +21,7 @@ place_of prefix (b ∷ outer) = if bytes_eq b.prefix.now prefix then Some (lengt
 -- each binding is of a text, and keeps the place of the one that it shadows
 abbrev pub AreLinked : List BoundPrefix → Type 0
 AreLinked [] = Unit {0}
-AreLinked (b ∷ outer) = (encode_utf8_all (lent b.prefix) ≡ b.prefix.now) × (b.shadowed ≡ place_of b.prefix.now outer) × AreLinked outer
+AreLinked (b ∷ outer) = (encode_utf8_all (lent_text b.prefix) ≡ b.prefix.now) × (b.shadowed ≡ place_of b.prefix.now outer) × AreLinked outer
 
 -- the place that the map has for a prefix
 abbrev pub place_in : BTreeMap (Bor (List ℕ)) ℕ → List ℕ → Option ℕ

@@ -1,7 +1,7 @@
 -- What is kept of the elements that are open.
 use Rattle.std.specs.Prelude.{ℕ, ◌<◌, Bool, true, false, List, [], ◌∷◌, ◌++◌, Option, Some, None, string_bytes}
 use Rattle.xc_elements.specs.Items.{Name}
-use Rattle.xc_elements.specs.Views.{name_view}
+use Rattle.xc_elements.specs.Steps.Views.{name_view}
 use Rattle.xc_elements.specs.declared.opens.OpenElement.{OpenElement}
 
 -- what is kept of an open element: its number, its name, how many declarations there are outside it, and its text so far
@@ -12,8 +12,8 @@ pub record Kept : Type 0 where
   pub text : List ℕ
 
 -- what an open element keeps
-abbrev pub kept : OpenElement → Kept
-kept e = record { number = e.number; name = name_view e.name; outside = e.outside; text = string_bytes e.text }
+abbrev pub kept_of : OpenElement → Kept
+kept_of e = record { number = e.number; name = name_view e.name; outside = e.outside; text = string_bytes e.text }
 
 -- the same, with more text in the innermost
 abbrev pub with_text : List ℕ → List Kept → List Kept

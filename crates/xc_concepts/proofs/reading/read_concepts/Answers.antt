@@ -15,12 +15,12 @@ loop-at-preserved c =
     let names = c.concept_at.new.names in
     record {
       declared =
-          ap (map (λ x. x.declared)) c.in_ok-keep.ensures
+          ap (map (λ x. x.declared)) c.in_ok-push_some.ensures
           ∙ map-append (λ x. x.declared) concepts (option_to_list found)
           ∙ (λ i. c.loop-at.invariant.declared i ++ map_listed (λ x. x.declared) found i)
           ∙ ap (λ o. filter_map (declared_at c.args.tree.now) (before c.loop-at.at) ++ option_to_list o) c.in_ok-concept_at.ensures.declared
           ∙ sym (gathered_more (declared_at c.args.tree.now) c.loop-at.at);
-      held = subst (All (IsHeld names)) (sym c.in_ok-keep.ensures)
+      held = subst (All (IsHeld names)) (sym c.in_ok-push_some.ensures)
           (All-append (IsHeld names) concepts (option_to_list found)
           (λ k d h. c.in_ok-concept_at.ensures.kept _ _ _ (c.loop-at.invariant.held k d h))
           (all_listed (IsHeld names) found c.in_ok-concept_at.ensures.held));

@@ -11,10 +11,10 @@ returns-then-branch c =
     let nodes = c.args.tree.now in
     let schemas = c.args.concepts.now in
     let at = c.loop-at.at in
-    let tested = concept_repeated schemas nodes at c.target.result.now c.loop-at.locals.keys c.top_name-local.result c.target.ensures c.top_name-local.ensures c.loop-at.invariant.names in
+    let tested = concept_repeated schemas nodes at c.target_space.result.now c.loop-at.locals.keys c.top_name-local.result c.target_space.ensures c.top_name-local.ensures c.loop-at.invariant.names in
     sym (sym c.loop-at.invariant.left
     ∙ first_here (place_where (repeats_concept schemas nodes)) at (length nodes) at (omega (arith, c.loop-at-test.true, c.count-at-end.ensures))
-    (ap (λ b. if b then Some at else None) (sym tested ∙ sym c.in_ok-is_taken.ensures.taken ∙ c.if-branch.true)))
+    (ap (λ b. if b then Some at else None) (sym tested ∙ sym c.in_ok-note_concept_name.ensures.taken ∙ c.if-branch.true)))
 
 pub loop-at-preserved : goal.loop-at-preserved
 loop-at-preserved c =
@@ -22,11 +22,11 @@ loop-at-preserved c =
     let schemas = c.args.concepts.now in
     let at = c.loop-at.at in
     let name = c.top_name-local.result in
-    let tested = concept_repeated schemas nodes at c.target.result.now c.loop-at.locals.keys name c.target.ensures c.top_name-local.ensures c.loop-at.invariant.names in
+    let tested = concept_repeated schemas nodes at c.target_space.result.now c.loop-at.locals.keys name c.target_space.ensures c.top_name-local.ensures c.loop-at.invariant.names in
     record {
-      names = texts_more c.loop-at.locals.keys c.is_taken.new.locals.keys (top_name nodes (codes "element")) at name c.top_name-local.ensures c.loop-at.invariant.names c.in_ok-is_taken.ensures.more;
+      names = texts_more c.loop-at.locals.keys c.note_concept_name.new.locals.keys (top_name nodes (codes "element")) at name c.top_name-local.ensures c.loop-at.invariant.names c.in_ok-note_concept_name.ensures.more;
       left =
           first_step (place_where (repeats_concept schemas nodes)) at (length nodes) (omega (arith, c.loop-at-test.true, c.count-at-end.ensures))
-          (ap (λ b. if b then Some at else None) (sym tested ∙ sym c.in_ok-is_taken.ensures.taken ∙ c.if-branch.false))
+          (ap (λ b. if b then Some at else None) (sym tested ∙ sym c.in_ok-note_concept_name.ensures.taken ∙ c.if-branch.false))
           ∙ c.loop-at.invariant.left;
     }

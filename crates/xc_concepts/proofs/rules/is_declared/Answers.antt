@@ -7,7 +7,7 @@ use Rattle.xc_concepts.proofs.rules.is_declared.Goals as goal
 pub returns-in-Some : goal.returns-in-Some
 returns-in-Some c =
     let schemas = c.args.concepts.now in
-    c.has.ensures
+    c.has_number.ensures
     ∙ ap (λ o. option_map_or (λ n. is_some (concept_numbered schemas n)) o false) c.in-Some.ensures.number
     ∙ sym (declared_by_number c.numbers_tell_names.ensures c.args.names.now c.args.space.now c.args.local.now schemas c.requires)
 

@@ -1,6 +1,6 @@
 use Rattle.std.proofs.Common.{◌∙◌, sym, ap, rules}
 use Rattle.std.specs.Str.{chars}
-use Rattle.xc_elements.specs.Views.{tag_part_view, attribute_view}
+use Rattle.xc_elements.specs.Steps.Views.{tag_part_view, attribute_view}
 use Rattle.xc_elements.proofs.FrontLaws.{found}
 use Rattle.xc_elements.proofs.TagLaws.{declares_none, declares_more, declares_all, declared_all, attribute_shorter, never_endless}
 use Rattle.xc_elements.proofs.expanded.declare.Goals as goal
@@ -18,8 +18,8 @@ loop-part-preserved c = (
   search rules,
   declares_more (chars c.args.tag.attributes.now) (chars c.loop-part.rest.now) (chars c.in-Some.after.now) c.args.scope.now c.loop-part.scope _ c.loop-part.declared _ (attribute_view c.in-Attribute.attribute)
       (sym (ap (λ t. found (tag_part_view t) (chars c.in-Some.after.now)) c.in-Attribute.is) ∙ c.in-Some.ensures.value)
-      c.in_ok-declare_one-in-Attribute.ensures.scope
-      c.in_ok-declare_one-in-Attribute.ensures.declared
+      c.in_ok-declare_attribute-in-Attribute.ensures.scope
+      c.in_ok-declare_attribute-in-Attribute.ensures.declared
       c.loop-part.invariant.1,
 )
 

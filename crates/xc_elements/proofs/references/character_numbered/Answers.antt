@@ -30,4 +30,4 @@ loop-c-preserved c =
     )
 
 pub returns : goal.returns
-returns c = c.numbered.ensures ∙ sym (from_end c.args.base c.loop-c.number _ (nothing_of_one _ c.in_default.ensures.value)) ∙ c.loop-c.invariant.2
+returns c = c.character_of_number.ensures ∙ sym (from_end c.args.base c.loop-c.number _ (nothing_of_one _ c.in_default.ensures.value)) ∙ c.loop-c.invariant.2

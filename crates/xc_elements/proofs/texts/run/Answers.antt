@@ -8,7 +8,7 @@ use Rattle.xc_elements.proofs.texts.run.Goals as goal
 
 pub returns-then-not-is_in : goal.returns-then-not-is_in
 returns-then-not-is_in c =
-    passed_all (run (is_in c.args.class)) (chars c.args.text.now) (chars c.loop-c.rest.now) _ _ c.loop-c.invariant.1 c.before-then-not-is_in.ensures
+    passed_all (run (is_in c.args.class)) (chars c.args.text.now) (chars c.loop-c.rest.now) _ _ c.loop-c.invariant.1 c.text_before.ensures
     (run_ends (is_in c.args.class) _ _ c.in-Some.c (text_of_one _ _ _ c.in-Some.ensures.value) (search rules))
 
 pub loop-c-preserved : goal.loop-c-preserved

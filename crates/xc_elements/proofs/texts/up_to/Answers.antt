@@ -7,7 +7,7 @@ use Rattle.xc_elements.proofs.texts.up_to.Goals as goal
 
 pub returns-in-Some-exactly : goal.returns-in-Some-exactly
 returns-in-Some-exactly c =
-    passed_all (up_to c.args.mark.now) (chars c.args.text.now) (chars c.loop-c.rest.now) _ _ c.loop-c.invariant.1 c.before-in-Some-exactly.ensures
+    passed_all (up_to c.args.mark.now) (chars c.args.text.now) (chars c.loop-c.rest.now) _ _ c.loop-c.invariant.1 c.text_before.ensures
     (up_to_ends_here c.args.mark.now _ _ _ c.in-Some.c (text_of_one _ _ _ c.in-Some.ensures.value) (sym c.in-Some-exactly.ensures))
 
 pub returns-then-not-is_character : goal.returns-then-not-is_character

@@ -9,5 +9,5 @@ give_back-requires c = is_placed c.self.inside.places c.self.inside.bindings.ite
 
 pub invariant_of-self : goal.invariant_of-self
 invariant_of-self c =
-    let given : (prefix : List ℕ) → place_in c.give_back.new.places prefix ≡ cond (bytes_eq c.in-Some.bound.prefix.now prefix) c.in-Some.bound.shadowed (place_in c.self.inside.places prefix) = search rules in
-    index_less c.self.inside.places c.self.inside.bindings.items c.pop.new.self.items c.in-Some.bound c.in-Some.ensures.items c.self.invariant c.give_back.new.places given
+    let given_of : (prefix : List ℕ) → place_in c.give_back.new.places prefix ≡ cond (bytes_eq c.in-Some.bound.prefix.now prefix) c.in-Some.bound.shadowed (place_in c.self.inside.places prefix) = search rules in
+    index_less c.self.inside.places c.self.inside.bindings.items c.pop.new.self.items c.in-Some.bound c.in-Some.ensures.items c.self.invariant c.give_back.new.places given_of

@@ -14,7 +14,7 @@ use Rattle.xc_report.specs.Json.{json_of, member_list}
 use Rattle.xc_report.specs.Opened.{Opened, or_none, members_or_none, first_wrong, opened_of, opened_unless, opened_data, opened}
 use Rattle.xc_report.specs.declared.reports.Member.{Member}
 use Rattle.xc_report.specs.declared.reports.ReportFault.{ReportFault}
-use Rattle.xc_report.proofs.RuleDimensions.{mapped}
+use Rattle.xc_report.proofs.Told.{mapped}
 
 -- a name is below the names of these members
 abbrev pub IsBelow : List ℕ → Members → Type 0

@@ -78,7 +78,7 @@ in_order_lasts parts q = fold_lasts parts [] q ∙ first_alone (last_at parts q)
 
 -- ---- which is the only one where no dimension stands twice
 
-none_behind : (d : Dimension) (ps : Key) → AllByRecursion (λ y. is_same_dimension d y ≡ false) (keys_of ps) → value_at ps d ≡ None
+pub none_behind : (d : Dimension) (ps : Key) → AllByRecursion (λ y. is_same_dimension d y ≡ false) (keys_of ps) → value_at ps d ≡ None
 none_behind d [] all = refl
 none_behind d (p ∷ ps) all = lookup_tail (is_same_dimension d) p ps all.0 ∙ none_behind d ps all.1
 

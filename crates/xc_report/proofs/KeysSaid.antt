@@ -15,15 +15,15 @@ use Rattle.xc_names.specs.Laws.{NumbersTellNames}
 use Rattle.xc_names.specs.Names.{is_named}
 use Rattle.xc_names.specs.declared.expanded.Expanded.{Expanded}
 use Rattle.xc_names.specs.declared.expanded.NameId.{NameId}
-use Rattle.xc_report.specs.Dimensions.{kind, taxonomy_number, is_same_dimension, in_order, HaveSameValues}
+use Rattle.xc_report.specs.Dimensions.{kind, taxonomy_number, is_same_dimension}
 use Rattle.xc_report.specs.Json.{member_list}
-use Rattle.xc_report.specs.Laws.{KeysSayWhatIsStated}
+use Rattle.xc_report.specs.Laws.{SaysWhatIsStated, KeysSayWhatIsStated}
 use Rattle.xc_report.specs.Numbered.{id_of, dimension_in, IsPart, AreParts, IsKey}
 use Rattle.xc_report.specs.Opened.{Opened, opened}
 use Rattle.xc_report.specs.Rules.{States, StatesConcept, StatesEntity, StatesPeriod, StatesPure, StatesUnit, StatesLanguage, StatesNote, StatesTaxonomy, AllState, HasDimensions, IsReadable, AllSay}
 use Rattle.xc_report.specs.Stated.{is_same_name, has_twice, part}
 use Rattle.xc_report.specs.StatedFacts.{stated_facts}
-use Rattle.xc_report.specs.Wanted.{Known, known_of}
+use Rattle.xc_report.specs.Wanted.{Known}
 use Rattle.xc_report.specs.declared.dimensions.Dimension.{Dimension}
 use Rattle.xc_report.specs.declared.dimensions.Dimension.TheVariants as numbered
 use Rattle.xc_report.specs.declared.dimensions.DimValue.{DimValue}
@@ -34,7 +34,7 @@ use Rattle.xc_report.specs.declared.stated.StatedFact.{StatedFact}
 use Rattle.xc_report.specs.declared.stated.StatedPart.{StatedPart}
 use Rattle.xc_report.proofs.JsonOrder.{IsOrdered, IsBelowAll, NamesAscend, EachOrdered, get_ordered, names_ascend, each_ordered, opened_ordered}
 use Rattle.xc_report.proofs.KeysDecide.{dimension_decides}
-use Rattle.xc_report.proofs.KeyValues.{order_keeps_values}
+use Rattle.xc_report.proofs.KeysExact.{key_exact}
 use Rattle.xc_report.proofs.RuleFacts.{facts_said}
 use Rattle.xc_report.proofs.SaidKeys.{name_kind, same_kind, taxonomy_is}
 use Rattle.xc_report.proofs.SaidMeasures.{one_name}
@@ -67,10 +67,10 @@ core name p d e n k = FromCore (n ∙ ap (λ x. word (name_kind x)) (sym e)) (λ
 
 stems : (known : Known) (name : List ℕ) (d : Data) (p : StatedPart) → States known name d (Some p) → Stems name p
 stems known name d p (StatesConcept n e) = absurd (none-some p (sym e))
-stems known name d p (StatesEntity text entity n t h e) = core name p named.Entity (ap (dimension_of named.Entity) e) n (omega arith)
-stems known name d p (StatesPeriod text n t e) = core name p named.Period (ap (dimension_of named.Entity) e) n (omega arith)
-stems known name d p (StatesPure text measures n t u h e) = absurd (none-some p (sym e))
-stems known name d p (StatesUnit text measures n t u h e) = core name p named.Unit (ap (dimension_of named.Entity) e) n (omega arith)
+stems known name d p (StatesEntity text scheme identifier n t h e) = core name p named.Entity (ap (dimension_of named.Entity) e) n (omega arith)
+stems known name d p (StatesPeriod text period n t h e) = core name p named.Period (ap (dimension_of named.Entity) e) n (omega arith)
+stems known name d p (StatesPure text n t u e) = absurd (none-some p (sym e))
+stems known name d p (StatesUnit text above below n t u h e) = core name p named.Unit (ap (dimension_of named.Entity) e) n (omega arith)
 stems known name d p (StatesLanguage text n t e) = core name p named.Language (ap (dimension_of named.Entity) e) n (omega arith)
 stems known name d p (StatesNote text n t e) = core name p named.NoteId (ap (dimension_of named.Entity) e) n (omega arith)
 stems known name d p (StatesTaxonomy axis v n h m e) = FromTaxonomy axis (ap (dimension_of named.Entity) e)
@@ -160,17 +160,17 @@ module _ (tell : NumbersTellNames) (known : Known) (names : List Expanded) where
       (subst (λ ps. has_twice ps ≡ false) is once) numbers (subst (λ ps. AreParts names ps numbers) is are)
 
   -- the key of a fact whose members ascend says what it states
-  fact_said : (fact : Data) (parts : List StatedPart) (key : Key) → IsOrdered fact → HasDimensions known fact parts → (is : IsKey names parts key) → HaveSameValues key is.numbers
+  fact_said : (fact : Data) (parts : List StatedPart) (key : Key) → IsOrdered fact → HasDimensions known fact parts → IsKey names parts key → SaysWhatIsStated names parts key
   fact_said fact parts key ordered has is =
       let members = get_ordered (codes "dimensions") fact _ ordered has.held in
       let distinct = all_distinct (member_list has.members) parts is.numbers (names_ascend has.members members) has.state has.once is.each in
-      subst (λ (k : Key). HaveSameValues k is.numbers) (sym is.ordered) (order_keeps_values is.numbers distinct)
+      key_exact tell names parts key is distinct
 
 -- ---- all facts
 
 module _ (tell : NumbersTellNames) (known : Known) where
   abbrev IsSaid : StatedFact → Type 0
-  IsSaid fact = (all : List Expanded) (key : Key) (is : IsKey all fact.parts key) → HaveSameValues key is.numbers
+  IsSaid fact = (all : List Expanded) (key : Key) → IsKey all fact.parts key → SaysWhatIsStated all fact.parts key
 
   each_said : (ms : List (List ℕ × Data)) (facts : List StatedFact) → EachOrdered ms → AllSay known ms facts → AllByRecursion IsSaid facts
   each_said [] facts ordered e = subst (AllByRecursion IsSaid) (sym e) tt
@@ -184,6 +184,5 @@ all_from P (x ∷ xs) all zero d less = all.0
 all_from P (x ∷ xs) all (suc k) d less = all_from P xs all.1 k d (omega arith)
 
 pub keys_said : NumbersTellNames → KeysSayWhatIsStated
-keys_said tell bytes report e names wanted facts h =
-    let known = known_of report.prefixes names wanted in
+keys_said tell bytes report e known facts h =
     all_from (IsSaid tell known) facts (each_said tell known (member_list report.facts) facts (each_ordered report.facts (opened_ordered bytes report e)) ((facts_said known report.facts facts).0 h))

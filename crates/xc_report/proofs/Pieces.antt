@@ -12,13 +12,13 @@ use Rattle.xc_report.specs.Units.{is_star, product}
 none_before : (b : Bool) → nat_lt 0 0 ≡ b → b ≡ true → ⊥
 none_before b e h = let lt : nat_lt 0 0 ≡ true = e ∙ h in grind (arith, nat_tests)
 
-one_less : (m n : ℕ) → nat_lt (1 + m) (suc n) ≡ nat_lt m n
+pub one_less : (m n : ℕ) → nat_lt (1 + m) (suc n) ≡ nat_lt m n
 one_less m n = grind (arith, nat_tests)
 
-take_one : {X : Type 0} (x : X) (xs : List X) (m n : ℕ) → m ≡ suc n → take m (x ∷ xs) ≡ x ∷ take n xs
+pub take_one : {X : Type 0} (x : X) (xs : List X) (m n : ℕ) → m ≡ suc n → take m (x ∷ xs) ≡ x ∷ take n xs
 take_one x xs m n e = subst (λ k. take k (x ∷ xs) ≡ x ∷ take n xs) (sym e) refl
 
-drop_one : {X : Type 0} (x : X) (xs : List X) (m n : ℕ) → m ≡ suc n → drop m (x ∷ xs) ≡ drop n xs
+pub drop_one : {X : Type 0} (x : X) (xs : List X) (m n : ℕ) → m ≡ suc n → drop m (x ∷ xs) ≡ drop n xs
 drop_one x xs m n e = subst (λ k. drop k (x ∷ xs) ≡ drop n xs) (sym e) refl
 
 pub split_first : {X : Type 0} (p : X → Bool) (xs : List X) → nat_lt (position_or_len p xs) (length xs) ≡ true → slice_split p xs ≡ before_first p xs ∷ slice_split p (after_first p xs)

@@ -13,6 +13,7 @@ use Rattle.xc_report.specs.Json.{member_list}
 use Rattle.xc_report.specs.Prefixed.{expanded, expanded_loosely}
 use Rattle.xc_report.specs.Periods.{normal_period}
 use Rattle.xc_report.specs.Rules.{IsNoCoreName, IsMember, NoMember, TypedMember, ExplicitMember, OtherMember, States, StatesConcept, StatesEntity, StatesPeriod, StatesPure, StatesUnit, StatesLanguage, StatesNote, StatesTaxonomy, AllState, HasDimensions}
+use Rattle.xc_report.specs.Rules.Units.{pure_measure}
 use Rattle.xc_report.specs.Stated.{part, entity_pair, entity_value, period_value, text_value, measures_value, named_value, member_value, taxonomy_value, kept, unit_kept, unit_part, taxonomy_part, part_of, has_twice, are_parts, given, given_parts, parts_of}
 use Rattle.xc_report.specs.Units.{unit, is_pure_alone}
 use Rattle.xc_report.specs.Wanted.{Known, is_typed}
@@ -21,6 +22,10 @@ use Rattle.xc_report.specs.declared.stated.DimensionName.TheVariants as dimensio
 use Rattle.xc_report.specs.declared.stated.StatedPart.{StatedPart}
 use Rattle.xc_report.specs.declared.stated.StatedValue.{StatedValue}
 use Rattle.xc_report.specs.declared.stated.StatedValue.TheVariants as value
+use Rattle.xc_report.proofs.RuleNames.{name_read, reads_name, name_told, entity_read, reads_entity}
+use Rattle.xc_report.proofs.RulePeriods.{period_read, reads_period}
+use Rattle.xc_report.proofs.RuleUnits.{unit_read, reads_unit, pure_alone, pure_is, not_pure, other_than_pure}
+use Rattle.xc_report.proofs.Told.{mapped}
 
 -- ---- JSON values of one kind
 
@@ -52,11 +57,6 @@ not_from : (b : Bool) → not b ≡ true → b ≡ false
 not_from true e = absurd (true≢false (sym e))
 not_from false e = refl
 
--- an answer that is mapped comes from one that is there
-pub mapped : {A B P : Type 0} (f : A → B) (o : Option A) (y : B) → option_map f o ≡ Some y → ((x : A) → o ≡ Some x → f x ≡ y → P) → P
-mapped f None y e k = absurd (none-some y e)
-mapped f (Some x) y e k = k x refl (same_Some (f x) y e)
-
 -- ---- a member
 
 module _ (known : Known) where
@@ -64,8 +64,8 @@ module _ (known : Known) where
   text_member : (axis : Expanded) (text : List ℕ) (v : StatedValue) (typed : Bool) → is_typed known axis ≡ typed → (o : Option Expanded) → expanded known.prefixes text ≡ o
       → (if typed then value.Text text else named_value text o) ≡ v → IsMember known axis (string text) v
   text_member axis text v true t o h e = TypedMember text refl t (sym e)
-  text_member axis text v false t None h e = OtherMember text refl t h (sym e)
-  text_member axis text v false t (Some member) h e = ExplicitMember text member refl t h (sym e)
+  text_member axis text v false t None h e = OtherMember text refl t ((name_told known.prefixes text).none.0 h) (sym e)
+  text_member axis text v false t (Some member) h e = ExplicitMember text member refl t (name_read known.prefixes text member h) (sym e)
 
   pub member_read : (axis : Expanded) (d : Data) (v : StatedValue) → taxonomy_value known.prefixes (is_typed known axis) d ≡ Some v → IsMember known axis d v
   member_read axis null v e = NoMember refl (sym (same_Some value.Null v e))
@@ -80,9 +80,10 @@ module _ (known : Known) where
   reads_member axis d v (TypedMember text is typed e) =
       ap (taxonomy_value known.prefixes (is_typed known axis)) is ∙ ap (λ b. Some (member_value known.prefixes b text)) typed ∙ ap Some (sym e)
   reads_member axis d v (ExplicitMember text member is typed h e) =
-      ap (taxonomy_value known.prefixes (is_typed known axis)) is ∙ ap (λ b. Some (member_value known.prefixes b text)) typed ∙ ap (λ o. Some (named_value text o)) h ∙ ap Some (sym e)
+      ap (taxonomy_value known.prefixes (is_typed known axis)) is ∙ ap (λ b. Some (member_value known.prefixes b text)) typed ∙ ap (λ o. Some (named_value text o)) (reads_name known.prefixes text member h) ∙ ap Some (sym e)
   reads_member axis d v (OtherMember text is typed h e) =
-      ap (taxonomy_value known.prefixes (is_typed known axis)) is ∙ ap (λ b. Some (member_value known.prefixes b text)) typed ∙ ap (λ o. Some (named_value text o)) h ∙ ap Some (sym e)
+      ap (taxonomy_value known.prefixes (is_typed known axis)) is ∙ ap (λ b. Some (member_value known.prefixes b text)) typed
+      ∙ ap (λ o. Some (named_value text o)) ((name_told known.prefixes text).none.1 h) ∙ ap Some (sym e)
 
   -- the texts by which the core dimensions are told apart
   chosen : {A : Type 0} (b : Bool) (x y : A) → b ≡ true → (if b then x else y) ≡ x
@@ -114,12 +115,13 @@ module _ (known : Known) where
       mapped (λ v. Some (part dimension.Entity v)) (entity_value known.prefixes d) p e (λ v h is.
       mapped entity_pair (option_and_then (expanded_loosely known.prefixes) (as_str d)) v h (λ entity g pair_is.
       option_and_then_some (expanded_loosely known.prefixes) (as_str d) entity g (λ text t named.
-      StatesEntity text entity n (is_text d text t) named (sym is ∙ ap (λ w. Some (part dimension.Entity w)) (sym pair_is)))))
+      StatesEntity text entity.space entity.local n (is_text d text t) (entity_read known.prefixes text entity named) (sym is ∙ ap (λ w. Some (part dimension.Entity w)) (sym pair_is)))))
 
   of_unit : (name text : List ℕ) (d : Data) (p : Option StatedPart) (measures : List Expanded × List Expanded) → name ≡ codes "unit" → d ≡ string text → unit known.prefixes text ≡ Some measures
       → (pure : Bool) → is_pure_alone measures ≡ pure → (if pure then None else Some (part dimension.Unit (measures_value measures))) ≡ p → States known name d p
-  of_unit name text d p measures n t u true h e = StatesPure text measures n t u h (sym e)
-  of_unit name text d p measures n t u false h e = StatesUnit text measures n t u h (sym e)
+  of_unit name text d p measures n t u true h e =
+      StatesPure text n t (unit_read known.prefixes text (pure_measure ∷ [], []) (u ∙ ap (λ m. Some m) (pure_alone measures h))) (sym e)
+  of_unit name text d p measures n t u false h e = StatesUnit text measures.0 measures.1 n t (unit_read known.prefixes text measures u) (other_than_pure measures.0 measures.1 h) (sym e)
 
   read_unit : (name : List ℕ) (d : Data) (p : Option StatedPart) → name ≡ codes "unit" → unit_part known.prefixes d ≡ Some p → States known name d p
   read_unit name d p n e =
@@ -131,7 +133,7 @@ module _ (known : Known) where
   read_taxonomy name d p n None h e = absurd (none-some p e)
   read_taxonomy name d p n (Some axis) h e =
       mapped (λ v. Some (part (dimension.Taxonomy axis) v)) (taxonomy_value known.prefixes (is_typed known axis) d) p e (λ v g is.
-      StatesTaxonomy axis v n h (member_read axis d v g) (sym is))
+      StatesTaxonomy axis v n (name_read known.prefixes name axis h) (member_read axis d v g) (sym is))
 
   module _ (name : List ℕ) (d : Data) (p : Option StatedPart) where
     not_note : (concept : name ≢ codes "concept") (entity : name ≢ codes "entity") (period : name ≢ codes "period") (unit : name ≢ codes "unit") (language : name ≢ codes "language")
@@ -157,7 +159,7 @@ module _ (known : Known) where
     not_period : (concept : name ≢ codes "concept") (entity : name ≢ codes "entity") → (b : Bool) → bytes_eq name (codes "period") ≡ b
         → (if b then kept dimension.Period (period_value d) else (if bytes_eq name (codes "unit") then unit_part known.prefixes d else (if bytes_eq name (codes "language") then kept dimension.Language (text_value d) else (if bytes_eq name (codes "noteId") then kept dimension.NoteId (text_value d) else taxonomy_part known d (expanded known.prefixes name))))) ≡ Some p
         → States known name d p
-    not_period concept entity true h e = kept_text name d p dimension.Period (λ text. value.Text (normal_period text)) e (λ text t is. StatesPeriod text (same name (codes "period") h) t is)
+    not_period concept entity true h e = kept_text name d p dimension.Period (λ text. value.Text (normal_period text)) e (λ text t is. StatesPeriod text (normal_period text) (same name (codes "period") h) t (period_read text) is)
     not_period concept entity false h e = not_unit concept entity (apart name (codes "period") h) (bytes_eq name (codes "unit")) refl e
 
     not_entity : (concept : name ≢ codes "concept") → (b : Bool) → bytes_eq name (codes "entity") ≡ b
@@ -179,21 +181,24 @@ module _ (known : Known) where
     -- and what it states is read
     pub reads_part : States known name d p → part_of known (name, d) ≡ Some p
     reads_part (StatesConcept n e) = ap (λ w. part_of known (w, d)) n ∙ ap Some (sym e)
-    reads_part (StatesEntity text entity n t h e) =
-        ap (λ w. part_of known (w, d)) n ∙ ap (λ x. part_of known (codes "entity", x)) t ∙ ap (λ o. kept dimension.Entity (option_map entity_pair o)) h ∙ ap Some (sym e)
-    reads_part (StatesPeriod text n t e) = ap (λ w. part_of known (w, d)) n ∙ ap (λ x. part_of known (codes "period", x)) t ∙ ap Some (sym e)
-    reads_part (StatesPure text measures n t u h e) =
-        ap (λ w. part_of known (w, d)) n ∙ ap (λ x. part_of known (codes "unit", x)) t ∙ ap (λ o. option_map unit_kept o) u
-        ∙ ap Some (chosen (is_pure_alone measures) None (Some (part dimension.Unit (measures_value measures))) h) ∙ ap Some (sym e)
-    reads_part (StatesUnit text measures n t u h e) =
-        ap (λ w. part_of known (w, d)) n ∙ ap (λ x. part_of known (codes "unit", x)) t ∙ ap (λ o. option_map unit_kept o) u
-        ∙ ap Some (other (is_pure_alone measures) None (Some (part dimension.Unit (measures_value measures))) h) ∙ ap Some (sym e)
+    reads_part (StatesEntity text scheme identifier n t h e) =
+        ap (λ w. part_of known (w, d)) n ∙ ap (λ x. part_of known (codes "entity", x)) t
+        ∙ ap (λ o. kept dimension.Entity (option_map entity_pair o)) (reads_entity known.prefixes text scheme identifier h) ∙ ap Some (sym e)
+    reads_part (StatesPeriod text period n t h e) =
+        ap (λ w. part_of known (w, d)) n ∙ ap (λ x. part_of known (codes "period", x)) t
+        ∙ ap (λ w. Some (Some (part dimension.Period (value.Text w)))) (reads_period text period h) ∙ ap Some (sym e)
+    reads_part (StatesPure text n t u e) =
+        ap (λ w. part_of known (w, d)) n ∙ ap (λ x. part_of known (codes "unit", x)) t ∙ ap (λ o. option_map unit_kept o) (reads_unit known.prefixes text (pure_measure ∷ []) [] u)
+        ∙ ap Some (chosen (is_pure_alone (pure_measure ∷ [], [])) None (Some (part dimension.Unit (measures_value (pure_measure ∷ [], [])))) pure_is) ∙ ap Some (sym e)
+    reads_part (StatesUnit text above below n t u h e) =
+        ap (λ w. part_of known (w, d)) n ∙ ap (λ x. part_of known (codes "unit", x)) t ∙ ap (λ o. option_map unit_kept o) (reads_unit known.prefixes text above below u)
+        ∙ ap Some (other (is_pure_alone (above, below)) None (Some (part dimension.Unit (measures_value (above, below)))) (not_pure above below h)) ∙ ap Some (sym e)
     reads_part (StatesLanguage text n t e) = ap (λ w. part_of known (w, d)) n ∙ ap (λ x. part_of known (codes "language", x)) t ∙ ap Some (sym e)
     reads_part (StatesNote text n t e) = ap (λ w. part_of known (w, d)) n ∙ ap (λ x. part_of known (codes "noteId", x)) t ∙ ap Some (sym e)
     reads_part (StatesTaxonomy axis v n h m e) =
         other _ _ _ (differs name (codes "concept") n.concept) ∙ other _ _ _ (differs name (codes "entity") n.entity) ∙ other _ _ _ (differs name (codes "period") n.period)
         ∙ other _ _ _ (differs name (codes "unit") n.unit) ∙ other _ _ _ (differs name (codes "language") n.language) ∙ other _ _ _ (differs name (codes "noteId") n.note)
-        ∙ ap (taxonomy_part known d) h ∙ ap (kept (dimension.Taxonomy axis)) (reads_member axis d v m) ∙ ap Some (sym e)
+        ∙ ap (taxonomy_part known d) (reads_name known.prefixes name axis h) ∙ ap (kept (dimension.Taxonomy axis)) (reads_member axis d v m) ∙ ap Some (sym e)
 
   -- ---- all members
 

@@ -24,26 +24,23 @@ use Rattle.xc_report.specs.declared.reports.ReportFault.{ReportFault}
 use Rattle.xc_report.specs.declared.reports.ReportFault.TheVariants as fault
 use Rattle.xc_report.specs.declared.stated.StatedFact.{StatedFact}
 use Rattle.xc_report.specs.declared.stated.StatedPart.{StatedPart}
-use Rattle.xc_report.proofs.RuleDimensions.{is_text, is_number, mapped, dimensions_read, reads_dimensions}
+use Rattle.xc_report.proofs.RuleDimensions.{is_text, is_number, dimensions_read, reads_dimensions}
+use Rattle.xc_report.proofs.RuleNames.{name_read, reads_name}
+use Rattle.xc_report.proofs.Told.{mapped, missing}
 
 -- ---- the parts of a fact
-
--- what is never there is missing
-missing : {A : Type 0} (o : Option A) → ((x : A) → o ≡ Some x → ⊥) → o ≡ None
-missing None never = refl
-missing (Some x) never = absurd (never x refl)
 
 about_read : (p : Bindings) (fact : Data) (name : Expanded) → concept_of p fact ≡ Some name → IsAbout p fact name
 about_read p fact name e =
     option_and_then_some (expanded p) (concept_text fact) name e (λ text h named.
     option_and_then_some (text_at (codes "concept")) (dimensions_of fact) text h (λ d held s.
     option_and_then_some as_str (get (codes "concept") d) text s (λ v got t.
-    record { dimensions = d; held = held; text = text; stated = got ∙ ap Some (is_text v text t); named = named })))
+    record { dimensions = d; held = held; text = text; stated = got ∙ ap Some (is_text v text t); named = name_read p text name named })))
 
 reads_about : (p : Bindings) (fact : Data) (name : Expanded) → IsAbout p fact name → concept_of p fact ≡ Some name
 reads_about p fact name a =
     ap (λ o. option_and_then (expanded p) (option_and_then (text_at (codes "concept")) o)) a.held
-    ∙ ap (λ o. option_and_then (expanded p) (option_and_then as_str o)) a.stated ∙ a.named
+    ∙ ap (λ o. option_and_then (expanded p) (option_and_then as_str o)) a.stated ∙ reads_name p a.text name a.named
 
 null_is : (d : Data) → null_or_text d ≡ Some None → d ≡ null
 null_is null e = refl

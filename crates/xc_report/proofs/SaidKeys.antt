@@ -139,7 +139,7 @@ module _ (tell : NumbersTellNames) where
       i.2.2 ∙ ap₂ value.Measures above below ∙ sym j.2.2
   value_carried_of names others _ _ a b c d same h k i j e = absurd (omega arith)
 
-  value_carried : (names others : List Expanded) (one other : StatedValue) (a b c d : DimValue)
+  pub value_carried : (names others : List Expanded) (one other : StatedValue) (a b c d : DimValue)
       → IsValue names one a → IsValue names other b → IsValue others one c → IsValue others other d → a ≡ b → c ≡ d
   value_carried names others one other a b c d h k i j e =
       value_carried_of names others one other a b c d (sym (same_value_kind names one a h) ∙ ap value_kind e ∙ same_value_kind names other b k) h k i j e

@@ -1,19 +1,25 @@
 -- What follows from the definitions, in the words of reports.
-use Rattle.std.specs.Prelude.{◌≡◌, ◌↔◌, ℕ, List, true, Contains, All, map, Ok, Err}
-use Rattle.xc_report.specs.Dimensions.{IsAscending, HaveSameValues, is_same_dimension, is_same_key, in_order, key_number}
+use Rattle.std.specs.Prelude.{◌≡◌, ◌↔◌, ◌⊎◌, ◌++◌, ℕ, List, true, codes, Contains, All, map, Option, Some, None, Ok, Err}
+use Rattle.xc_report.specs.Dimensions.{IsAscending, HaveSameValues, is_same_dimension, is_same_key, in_order, key_number, value_at}
 use Rattle.std.specs.List.{IsDistinct}
 use Rattle.std.specs.Map.{keys_of}
 use Rattle.xc_report.specs.contracts.dimensions.KeyPartialEq.TheImpl as comparison
 use Rattle.serde_json.specs.Data.{Members}
+use Rattle.xc_names.specs.Prefixes.{Bindings}
 use Rattle.xc_names.specs.declared.expanded.Expanded.{Expanded}
-use Rattle.xc_names.specs.declared.wanted.Wanted.{Wanted}
-use Rattle.xc_report.specs.Numbered.{IsKey, IsReport}
+use Rattle.xc_report.specs.Numbered.{IsPart, IsKey, IsReport}
 use Rattle.xc_report.specs.Opened.{Opened, opened}
 use Rattle.xc_report.specs.Renamed.{renamed_stated, renamed_fact, renamed_read, IsKnownAs}
 use Rattle.xc_report.specs.Json.{member_list}
+use Rattle.xc_report.specs.Periods.{normal_period}
+use Rattle.xc_report.specs.Prefixed.{expanded, expanded_loosely}
 use Rattle.xc_report.specs.Rules.{AllSay, FirstBreaks}
+use Rattle.xc_report.specs.Rules.Names.{StandsFor, IsEntity}
+use Rattle.xc_report.specs.Rules.Periods.{IsDate, IsMoment, IsPeriod}
+use Rattle.xc_report.specs.Rules.Units.{IsUnit}
 use Rattle.xc_report.specs.StatedFacts.{stated_facts}
-use Rattle.xc_report.specs.Wanted.{Known, known_of}
+use Rattle.xc_report.specs.Units.{unit}
+use Rattle.xc_report.specs.Wanted.{Known}
 use Rattle.xc_report.specs.declared.dimensions.Dimension.{Dimension}
 use Rattle.xc_report.specs.declared.dimensions.DimValue.{DimValue}
 use Rattle.xc_report.specs.declared.dimensions.Key.{Key}
@@ -55,6 +61,32 @@ abbrev pub ReportIsRenamed : Type 0
 ReportIsRenamed = (f : ℕ → ℕ) (names others : List Expanded) (facts : List StatedFact) (report other : Report) → IsReport names facts report → IsReport others (map (renamed_stated f) facts) other
     → other.facts ≡ map (renamed_fact f) report.facts
 
+-- an answer is told by a relation: it is given exactly where the relation holds of it, it is missing exactly where the relation holds of nothing, and it holds of one at most
+pub record IsTold {A : Type 0} (Is : A → Type 0) (answer : Option A) : Type 0 where
+  pub some : (a : A) → (answer ≡ Some a) ↔ Is a
+  pub none : (answer ≡ None) ↔ ((a : A) → ¬ (Is a))
+  pub one : (a b : A) → Is a → Is b → a ≡ b
+
+-- the name that is read of a text is the one that it stands for
+abbrev pub NamesAreSaid : Type 0
+NamesAreSaid = (prefixes : Bindings) (text : List ℕ) → IsTold (StandsFor prefixes text) (expanded prefixes text)
+
+-- the entity that is read of a text is the one that it is
+abbrev pub EntitiesAreSaid : Type 0
+EntitiesAreSaid = (prefixes : Bindings) (text : List ℕ) → IsTold (λ name. IsEntity prefixes text name.space name.local) (expanded_loosely prefixes text)
+
+-- each text has one normal form as a period
+abbrev pub PeriodsAreSaid : Type 0
+PeriodsAreSaid = (text : List ℕ) → IsTold (IsPeriod text) (Some (normal_period text))
+
+-- the start of a day is said by its date, by itself, and by no other text
+abbrev pub DaysAreMoments : Type 0
+DaysAreMoments = (text date : List ℕ) → IsDate date → IsMoment text (date ++ codes "T00:00:00") ↔ ((text ≡ date) ⊎ (text ≡ date ++ codes "T00:00:00"))
+
+-- the measures that are read of a unit text are those above the line and below it
+abbrev pub UnitsAreSaid : Type 0
+UnitsAreSaid = (prefixes : Bindings) (text : List ℕ) → IsTold (λ measures. IsUnit prefixes text measures.0 measures.1) (unit prefixes text)
+
 -- facts are answered exactly where each member is left out or readable, each with what it says
 abbrev pub FactsAreSaid : Type 0
 FactsAreSaid = (known : Known) (members : Members) (facts : List StatedFact) → (stated_facts known members ≡ Ok facts) ↔ AllSay known (member_list members) facts
@@ -63,7 +95,11 @@ FactsAreSaid = (known : Known) (members : Members) (facts : List StatedFact) →
 abbrev pub FaultsAreFirst : Type 0
 FaultsAreFirst = (known : Known) (members : Members) (f : ReportFault) → (stated_facts known members ≡ Err f) ↔ FirstBreaks known (member_list members) f
 
--- the key of a fact that was read has each dimension that the fact states, with the value that it states
+-- a key says what these parts state: it has a value at a dimension exactly where a part states this value of this dimension
+abbrev pub SaysWhatIsStated : List Expanded → List StatedPart → Key → Type 0
+SaysWhatIsStated names parts key = (dimension : Dimension) (v : DimValue) → (value_at key dimension ≡ Some v) ↔ ((part : StatedPart) × Contains parts part × IsPart names part (dimension, v))
+
+-- the key of a fact that was read says what the fact states
 abbrev pub KeysSayWhatIsStated : Type 0
-KeysSayWhatIsStated = (bytes : List ℕ) (report : Opened) → opened bytes ≡ Ok report → (names : List Expanded) (wanted : Wanted) (facts : List StatedFact)
-    → stated_facts (known_of report.prefixes names wanted) report.facts ≡ Ok facts → All (λ fact. (all : List Expanded) (key : Key) (is : IsKey all fact.parts key) → HaveSameValues key is.numbers) facts
+KeysSayWhatIsStated = (bytes : List ℕ) (report : Opened) → opened bytes ≡ Ok report → (known : Known) (facts : List StatedFact)
+    → stated_facts known report.facts ≡ Ok facts → All (λ fact. (names : List Expanded) (key : Key) → IsKey names fact.parts key → SaysWhatIsStated names fact.parts key) facts

@@ -1,4 +1,8 @@
 -- The rules of xBRL-JSON 1.0 on the dimensions of a fact and on fact objects, apart from the steps in which they are read.
+pub mod Cuts
+pub mod Names
+pub mod Periods
+pub mod Units
 use Rattle.std.specs.Prelude.{◌≡◌, ◌≢◌, ℕ, ℤ, Bool, true, false, List, [], ◌∷◌, ◌⊎◌, codes, Option, Some, None, Result, Ok, Err}
 use Rattle.std.specs.List.{cons_option}
 use Rattle.serde_json.specs.Data.{Data, null, number, string, object, Num, Members}
@@ -11,10 +15,10 @@ use Rattle.xc_names.specs.Prefixes.{Bindings}
 use Rattle.xc_names.specs.declared.expanded.Expanded.{Expanded}
 use Rattle.xc_names.specs.declared.expanded.NameId.{NameId}
 use Rattle.xc_report.specs.Json.{member_list}
-use Rattle.xc_report.specs.Periods.{normal_period}
-use Rattle.xc_report.specs.Prefixed.{expanded, expanded_loosely}
+use Rattle.xc_report.specs.Rules.Names.{StandsFor, IsEntity}
+use Rattle.xc_report.specs.Rules.Periods.{IsPeriod}
+use Rattle.xc_report.specs.Rules.Units.{IsUnit, IsPure, pure_measure}
 use Rattle.xc_report.specs.Stated.{part, has_twice}
-use Rattle.xc_report.specs.Units.{unit, is_pure_alone}
 use Rattle.xc_report.specs.Wanted.{Known, node_of, is_typed}
 use Rattle.xc_report.specs.declared.reports.Reading.{Reading}
 use Rattle.xc_report.specs.declared.reports.Reading.TheVariants as read
@@ -41,22 +45,21 @@ pub record IsNoCoreName (name : List ℕ) : Type 0 where
 pub data IsMember (known : Known) (name : Expanded) (d : Data) (v : StatedValue) : Type 0 where
   NoMember : d ≡ null → v ≡ value.Null → IsMember known name d v
   TypedMember : (text : List ℕ) → d ≡ string text → is_typed known name ≡ true → v ≡ value.Text text → IsMember known name d v
-  ExplicitMember : (text : List ℕ) (member : Expanded) → d ≡ string text → is_typed known name ≡ false → expanded known.prefixes text ≡ Some member → v ≡ value.Name member → IsMember known name d v
-  OtherMember : (text : List ℕ) → d ≡ string text → is_typed known name ≡ false → expanded known.prefixes text ≡ None → v ≡ value.Text text → IsMember known name d v
+  ExplicitMember : (text : List ℕ) (member : Expanded) → d ≡ string text → is_typed known name ≡ false → StandsFor known.prefixes text member → v ≡ value.Name member → IsMember known name d v
+  OtherMember : (text : List ℕ) → d ≡ string text → is_typed known name ≡ false → ((member : Expanded) → ¬ (StandsFor known.prefixes text member)) → v ≡ value.Text text → IsMember known name d v
 
 -- a member of `dimensions` states this dimension with this value, or none: the concept, which stands beside the key, and the unit `pure` alone, which says the same as no unit
 pub data States (known : Known) (name : List ℕ) (d : Data) (p : Option StatedPart) : Type 0 where
   StatesConcept : name ≡ codes "concept" → p ≡ None → States known name d p
-  StatesEntity : (text : List ℕ) (entity : Expanded) → name ≡ codes "entity" → d ≡ string text → expanded_loosely known.prefixes text ≡ Some entity
-      → p ≡ Some (part dimension.Entity (value.Pair entity.space entity.local)) → States known name d p
-  StatesPeriod : (text : List ℕ) → name ≡ codes "period" → d ≡ string text → p ≡ Some (part dimension.Period (value.Text (normal_period text))) → States known name d p
-  StatesPure : (text : List ℕ) (measures : List Expanded × List Expanded) → name ≡ codes "unit" → d ≡ string text → unit known.prefixes text ≡ Some measures → is_pure_alone measures ≡ true
-      → p ≡ None → States known name d p
-  StatesUnit : (text : List ℕ) (measures : List Expanded × List Expanded) → name ≡ codes "unit" → d ≡ string text → unit known.prefixes text ≡ Some measures → is_pure_alone measures ≡ false
-      → p ≡ Some (part dimension.Unit (value.Measures measures.0 measures.1)) → States known name d p
+  StatesEntity : (text scheme identifier : List ℕ) → name ≡ codes "entity" → d ≡ string text → IsEntity known.prefixes text scheme identifier
+      → p ≡ Some (part dimension.Entity (value.Pair scheme identifier)) → States known name d p
+  StatesPeriod : (text period : List ℕ) → name ≡ codes "period" → d ≡ string text → IsPeriod text period → p ≡ Some (part dimension.Period (value.Text period)) → States known name d p
+  StatesPure : (text : List ℕ) → name ≡ codes "unit" → d ≡ string text → IsUnit known.prefixes text (pure_measure ∷ []) [] → p ≡ None → States known name d p
+  StatesUnit : (text : List ℕ) (above below : List Expanded) → name ≡ codes "unit" → d ≡ string text → IsUnit known.prefixes text above below → ¬ (IsPure above below)
+      → p ≡ Some (part dimension.Unit (value.Measures above below)) → States known name d p
   StatesLanguage : (text : List ℕ) → name ≡ codes "language" → d ≡ string text → p ≡ Some (part dimension.Language (value.Text text)) → States known name d p
   StatesNote : (text : List ℕ) → name ≡ codes "noteId" → d ≡ string text → p ≡ Some (part dimension.NoteId (value.Text text)) → States known name d p
-  StatesTaxonomy : (axis : Expanded) (v : StatedValue) → IsNoCoreName name → expanded known.prefixes name ≡ Some axis → IsMember known axis d v
+  StatesTaxonomy : (axis : Expanded) (v : StatedValue) → IsNoCoreName name → StandsFor known.prefixes name axis → IsMember known axis d v
       → p ≡ Some (part (dimension.Taxonomy axis) v) → States known name d p
 
 -- these members state these dimensions, in their order
@@ -79,7 +82,7 @@ pub record IsAbout (prefixes : Bindings) (fact : Data) (name : Expanded) : Type 
   pub held : get (codes "dimensions") fact ≡ Some dimensions
   pub text : List ℕ
   pub stated : get (codes "concept") dimensions ≡ Some (string text)
-  pub named : expanded prefixes text ≡ Some name
+  pub named : StandsFor prefixes text name
 
 -- a fact is one of a concept that is a node, the one with this number
 pub record IsOfNode (known : Known) (fact : Data) (concept : NameId) : Type 0 where

@@ -6,3 +6,4 @@ pub mod Laws
 pub mod Lines
 pub mod Settled
 pub mod Steps
+pub mod Summary

@@ -20,7 +20,7 @@ abbrev pub printed : List ℕ → List ℕ
 printed [] = 37 ∷ []
 printed (byte ∷ bytes) = flat_map printed_char (chars (byte ∷ bytes))
 
--- the words that are accepted, and those of a command that is to come
+-- the words that are accepted
 abbrev pub usage_line : List ℕ
 usage_line = codes "usage: xcalc sum MODE REPORT TOTAL TERM... | check [--old-arcs] MODE REPORT DOC... | verify [--old-arcs] MODE CERTIFICATE REPORT DOC... | sample N\n"
 

@@ -42,8 +42,12 @@ pub fn findings(
     Ok(out.into_bytes())
 }
 
-// How many bindings and points there are.
-fn push_counts(out: &mut String, bindings: usize, points: usize) -> Result<(), AllocError>
+/// How many bindings and points there are.
+pub(crate) fn push_counts(
+    out: &mut String,
+    bindings: usize,
+    points: usize,
+) -> Result<(), AllocError>
     ensures { OnOk result (string_bytes out.new ≡ string_bytes out.old ++ counts_line bindings points) }
 {
     out.push_str("bindings ")?;

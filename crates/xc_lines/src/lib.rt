@@ -8,6 +8,7 @@ mod judgements;
 pub mod laws;
 mod lines;
 mod settled;
+mod summary;
 mod texts;
 
 pub use found::findings;
@@ -15,6 +16,7 @@ pub use joints::joint_lines;
 pub use judgements::judgement_line;
 pub use lines::{placed_refusal_line, read_fault_line, refusal_line, usage_line};
 pub use settled::settled_lines;
+pub use summary::{is_inconsistent, is_too_wide, summary_lines};
 pub use texts::printed;
 
 #[cfg(test)]

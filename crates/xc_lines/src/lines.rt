@@ -8,7 +8,7 @@ use std::alloc::{AllocError, Global};
 const USAGE: &str =
     "usage: xcalc sum MODE REPORT TOTAL TERM... | check [--old-arcs] MODE REPORT DOC... | verify [--old-arcs] MODE CERTIFICATE REPORT DOC... | sample N\n";
 
-/// The usage line: the words that are accepted, and those of a command that is to come.
+/// The usage line: the words that are accepted.
 pub fn usage_line() -> &'static str
     ensures line { result.now ≡ usage_line }
 {

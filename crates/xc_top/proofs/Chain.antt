@@ -12,15 +12,17 @@ use Rattle.xc_report.specs.Wanted.{known_of}
 use Rattle.xc_report.specs.declared.reports.Report.{Report}
 use Rattle.xc_report.specs.declared.reports.ReportFault.{ReportFault}
 use Rattle.xc_report.specs.declared.stated.StatedFact.{StatedFact}
+use Rattle.xc_sample.specs.Samples.{report_text}
 use Rattle.xc_top.specs.Answer.{IsMade, IsHeldAnswer, IsFetchedAnswer, IsCommandAnswer}
 use Rattle.xc_top.specs.Answers.{refused, report_refusal}
 use Rattle.xc_top.specs.Certified.{IsJudgementIn, IsNoCertificate}
 use Rattle.xc_top.specs.Contents.{IsOpen, IsSaid, IsSaidByDocuments, IsReadOver, IsReadFrom, HasContent, are_too_many, report_word}
 use Rattle.xc_top.specs.Documents.{unfetched, unfetched_of, first_unfetched}
 use Rattle.xc_top.specs.FirstFaults.{IsNotSaid, AreRefused, IsNotOpenOver, AreUnread, IsUncertified}
-use Rattle.xc_top.specs.Steps.Chain.{IsCertified, Asked, Sought, FindingsAndJoint, JudgementOf, IsSought, IsCounted, IsRead, IsFactsAnswer, IsOpenedAnswer, IsDocumentsAnswer, IsOverFiles, over_asked, sum_asked, IsNumberedAnswer, IsReportAnswer, IsSumAnswer, IsHeldStep, IsFetchedStep, IsCommandStep}
+use Rattle.xc_top.specs.Steps.Chain.{IsCertified, Asked, Sought, FindingsAndJoint, JudgementOf, sample_sought, IsSought, IsCounted, IsRead, IsFactsAnswer, IsOpenedAnswer, IsDocumentsAnswer, IsOverFiles, over_asked, sum_asked, IsNumberedAnswer, IsReportAnswer, IsSumAnswer, IsHeldStep, IsFetchedStep, IsCommandStep}
+use Rattle.xc_top.specs.Samples.{files_read, sample_check, sample_files}
 use Rattle.xc_top.specs.Sums.{sum_network}
-use Rattle.xc_top.specs.Words.{SumWords, CheckWords, VerifyWords, CommandWords, SumOf, CheckOf, VerifyOf, file_words}
+use Rattle.xc_top.specs.Words.{SumWords, CheckWords, VerifyWords, CommandWords, SumOf, CheckOf, VerifyOf, SampleOf, file_words}
 use Rattle.xc_top.specs.declared.status.Answer.{Answer}
 
 -- ---- from the steps
@@ -122,11 +124,13 @@ from_held (CheckOf check) files a h =
 from_held (VerifyOf verify) files a h =
     from_files (VerifyOf verify) files verify.over (JudgementOf verify.certificate h.0) refl a (λ parts names networks wanted says. says) (λ none. none)
     (λ networks report content is. from_certified verify files a h.0 h.1 networks report content is) h.2
+from_held (SampleOf n) files a h =
+    from_files (SampleOf n) files sample_check (sample_sought n) refl a (λ parts names networks wanted says. says) (λ none. none) (λ networks report content is. inr is) h
 
 -- what a command answers step by step is its answer
 pub from_steps : (command : CommandWords) (files : Files) (a : Answer) → IsCommandStep command files a → IsCommandAnswer command files a
 from_steps command files a (inl first) = inl first
-from_steps command files a (inr h) = inr (record { fetched = h.fetched; answered = from_held command files a h.answered })
+from_steps command files a (inr h) = inr (record { fetched = h.fetched; answered = from_held command (files_read command files) a h.answered })
 
 -- ---- back to the steps
 
@@ -255,7 +259,11 @@ module _ (verify : VerifyWords) (files : Files) (a : Answer) (bytes : List ℕ) 
       (to_facts (VerifyOf verify) files (over_asked verify.over sought_of) refl a h.networks h.report read
       (few_counted (VerifyOf verify) files (over_asked verify.over sought_of) refl a h.networks h.report h.content.few (inl none)))
 
-to_held : (command : CommandWords) (files : Files) (a : Answer) → first_unfetched files (file_words command) ≡ None → IsHeldAnswer command files a → IsHeldStep command files a
+-- the report of a sample is among its texts
+pub sample_report : (n : ℕ) → sample_files n sample_check.report ≡ Some (report_text n)
+sample_report n = refl
+
+to_held : (command : CommandWords) (files : Files) (a : Answer) → first_unfetched files (file_words command) ≡ None → IsHeldAnswer command (files_read command files) a → IsHeldStep command (files_read command files) a
 to_held (SumOf sum) files a fetched h =
     to_goal (SumOf sum) files (sum_asked sum) refl a (IsSumAnswer sum files a) (to_numbered sum files a) (to_unnumbered sum files a) (λ none. absurd none) (λ networks report content is. is) h
 to_held (CheckOf check) files a fetched h =
@@ -273,6 +281,12 @@ to_held (VerifyOf verify) files a fetched h =
           (λ parts names networks wanted over facts. to_over files verify.over sought a parts names networks wanted over.opened_as over.said facts)
           (to_not_said files verify.over sought a report.0 report.1) (to_uncertified verify files a certificate.0 certificate.1) (to_certified verify files a certificate.0 certificate.1) h,
     )
+to_held (SampleOf n) files a fetched h =
+    let texts = sample_files n in
+    let sought = sample_sought n in
+    to_goal (SampleOf n) texts (over_asked sample_check sought) refl a (IsOverFiles sample_check sought texts a)
+    (λ parts names networks wanted over facts. to_over texts sample_check sought a parts names networks wanted over.opened_as over.said facts)
+    (to_not_said texts sample_check sought a (report_text n) (sample_report n)) (λ none. absurd none) (λ networks report content is. is) h
 
 -- a command's answer is what it answers step by step
 pub to_steps : (command : CommandWords) (files : Files) (a : Answer) → IsFetchedAnswer command files a → IsFetchedStep command files a

@@ -23,9 +23,11 @@ pub mod RenamedSystems
 pub mod RenamedTaxonomies
 pub mod RenamedVerdicts
 pub mod Renaming
+pub mod Sampled
 pub mod Schemas
 pub mod SettledAnswers
 pub mod SettledParts
+pub mod Sizes
 pub mod Stops
 pub mod Told
 pub mod Unjudged

@@ -25,11 +25,12 @@ use Rattle.xc_top.proofs.RenamedTaxonomies.{one_taxonomy, one_refusal, refused_o
 use Rattle.xc_top.specs.Answer.{IsAnswer, IsCommandAnswer}
 use Rattle.xc_top.specs.Answers.{report_refusal}
 use Rattle.xc_top.specs.Documents.{first_unfetched, IsContentOf, IsDocumentOf, AreDocumentsOf}
-use Rattle.xc_top.specs.Steps.Chain.{over_asked, IsOpenedAnswer, IsDocumentsAnswer, IsOverFiles, IsVerifyAnswer, sum_asked, IsNumberedAnswer, IsReportAnswer, IsSumAnswer, IsHeldStep, Asked, Sought, FindingsAndJoint, JudgementOf, IsJoint, IsCounted, IsStated, IsRead, IsFactsAnswer}
+use Rattle.xc_top.specs.Steps.Chain.{over_asked, IsOpenedAnswer, IsDocumentsAnswer, IsOverFiles, IsVerifyAnswer, sum_asked, IsNumberedAnswer, IsReportAnswer, IsSumAnswer, IsHeldStep, Asked, Sought, FindingsAndJoint, JudgementOf, sample_sought, IsJoint, IsCounted, IsStated, IsRead, IsFactsAnswer}
 use Rattle.xc_top.specs.Run.{IsJudged}
 use Rattle.xc_top.specs.Laws.{AreOneIf, DocumentsAreOne, IsCheck}
+use Rattle.xc_top.specs.Samples.{files_read, sample_check}
 use Rattle.xc_top.specs.Sums.{sum_network, named_words, unbound}
-use Rattle.xc_top.specs.Words.{CommandWords, SumWords, CheckWords, VerifyWords, SumOf, CheckOf, VerifyOf, file_words}
+use Rattle.xc_top.specs.Words.{CommandWords, SumWords, CheckWords, VerifyWords, SumOf, CheckOf, VerifyOf, SampleOf, file_words}
 use Rattle.xc_top.specs.declared.documents.Content.{Content}
 use Rattle.xc_top.specs.declared.documents.Content.TheVariants.{Elements, Broken}
 use Rattle.xc_top.specs.declared.documents.Document.{Document}
@@ -164,12 +165,13 @@ module _ (below : Below) (documents_are_one : DocumentsAreOne) where
   one_held (SumOf sum) files one other h k = one_summed sum files one other h k
   one_held (CheckOf check) files one other h k = one_over_files check FindingsAndJoint files one other h k
   one_held (VerifyOf verify) files one other h k = one_verified verify files one other h k
+  one_held (SampleOf n) files one other h k = one_over_files sample_check (sample_sought n) files one other h k
 
   one_command : (command : CommandWords) (files : Files) (one other : Answer) → IsCommandAnswer command files one → IsCommandAnswer command files other → AreOneIf (IsCheck (Some command) × IsJudged one.status) one other
   one_command command files one other (inl h) (inl k) = inl (same_some one other (first_unfetched files (file_words command)) h k)
   one_command command files one other (inl h) (inr k) = absurd (some_none one (first_unfetched files (file_words command)) h k.fetched)
   one_command command files one other (inr h) (inl k) = absurd (some_none other (first_unfetched files (file_words command)) k h.fetched)
-  one_command command files one other (inr h) (inr k) = one_held command files one other (to_steps command files one h).answered (to_steps command files other k).answered
+  one_command command files one other (inr h) (inr k) = one_held command (files_read command files) one other (to_steps command files one h).answered (to_steps command files other k).answered
 
   pub one_answer : (words : Option CommandWords) (files : Files) (one other : Answer) → IsAnswer words files one → IsAnswer words files other → AreOneIf (IsCheck words × IsJudged one.status) one other
   one_answer None files one other h k = inl (h ∙ sym k)

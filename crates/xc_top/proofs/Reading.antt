@@ -18,8 +18,9 @@ use Rattle.xc_top.specs.Contents.{HasContent, report_word}
 use Rattle.xc_top.specs.Documents.{AreDocumentsOf}
 use Rattle.xc_top.specs.FirstFaults.{AreRefused, IsNotOpen, IsNotOpenOver, IsNotSaid, IsUncertified, IsFirstFault}
 use Rattle.xc_top.specs.Run.{IsJudged}
+use Rattle.xc_top.specs.Samples.{sample_check}
 use Rattle.xc_top.specs.Sums.{is_bound, named_words, unbound}
-use Rattle.xc_top.specs.Words.{CheckWords, VerifyWords, CommandWords, SumOf, CheckOf, VerifyOf}
+use Rattle.xc_top.specs.Words.{CheckWords, VerifyWords, CommandWords, SumOf, CheckOf, VerifyOf, SampleOf}
 use Rattle.xc_top.specs.declared.documents.Document.{Document}
 use Rattle.xc_top.specs.declared.status.Answer.{Answer}
 
@@ -48,12 +49,14 @@ module _ (files : Files) (a : Answer) where
   not_said_unjudged (SumOf sum) (inr h) = given_has IsUnjudged (unbound h.parts.prefixes sum.report) (unbound_unjudged h.parts.prefixes sum.report) (named_words sum) a h.lacks
   not_said_unjudged (CheckOf check) h = documents_unjudged check h
   not_said_unjudged (VerifyOf verify) h = documents_unjudged verify.over h
+  not_said_unjudged (SampleOf n) h = documents_unjudged sample_check h
 
   uncertified_unjudged : (command : CommandWords) → IsUncertified command files a → IsUnjudged a
   uncertified_unjudged (SumOf sum) h = absurd h
   uncertified_unjudged (CheckOf check) h = absurd h
   uncertified_unjudged (VerifyOf verify) h =
       refusal_unjudged verify.certificate (certificate.code_of (NotCertificate h.lacks.0)) (option_map decimal (certificate.place_of (NotCertificate h.lacks.0))) a h.lacks.2
+  uncertified_unjudged (SampleOf n) h = absurd h
 
   fault_unjudged : (command : CommandWords) → IsFirstFault command files a → IsUnjudged a
   fault_unjudged command (inl h) = not_said_unjudged command h

@@ -18,6 +18,7 @@ use Rattle.xc_joint.specs.Kinds.{Kind, HasOneKind, kind_of}
 use Rattle.xc_joint.specs.declared.types.Joint.{Joint}
 use Rattle.xc_joint.specs.declared.types.Joint.TheVariants.{Settled, TooWide as Caused}
 use Rattle.xc_lines.specs.Joints.{joint_lines, part_lines}
+use Rattle.xc_lines.specs.Summary.{kind_line, summary}
 use Rattle.xc_lines.specs.Settled.{because_lines}
 use Rattle.xc_lines.specs.Findings.{first_id, first_id_at, counts_line, binding_line, empty_point_line, line_of, binding_lines, empty_point_lines, findings}
 use Rattle.xc_points.specs.Gathered.{ArePoints}
@@ -33,11 +34,11 @@ use Rattle.xc_top.proofs.RenamedVerdicts.{one_verdicts}
 use Rattle.xc_report.specs.Renamed.{renamed_fact}
 use Rattle.xc_top.proofs.Renaming.{IsInjective, renamed_network, renamed_point}
 use Rattle.xc_top.specs.Answers.{make_answer, refused}
-use Rattle.xc_top.specs.Findings.{has_finding, is_inconsistent, is_too_wide, is_empty_point, is_contradicted, is_caused, status_of, joint_status, AreVerdicts, IsFindings, IsJointFindings, findings_of}
+use Rattle.xc_top.specs.Findings.{has_finding, is_inconsistent, is_too_wide, is_empty_point, is_contradicted, is_caused, status_of, joint_status, AreVerdicts, IsFindings, IsJudgedJointly, IsJointFindings, IsSummary, findings_of}
 use Rattle.xc_top.specs.Contents.{are_too_many}
-use Rattle.xc_top.specs.Steps.Chain.{Asked, Sought, FindingsAlone, FindingsAndJoint, JudgementOf, IsJoint, IsSought, IsCounted}
+use Rattle.xc_top.specs.Steps.Chain.{Asked, Sought, FindingsAlone, FindingsAndJoint, JudgementOf, SummaryOf, IsJoint, IsSought, IsCounted}
 use Rattle.xc_top.specs.Run.{IsJudged}
-use Rattle.xc_top.specs.Laws.{AreOfOneKind, AreOneIf, kind_line}
+use Rattle.xc_top.specs.Laws.{AreOfOneKind, AreOneIf}
 use Rattle.xc_top.specs.declared.status.Answer.{Answer}
 use Rattle.xc_top.specs.declared.status.Status.TheVariants.{Sound, Findings, TooWide}
 use Rattle.xc_verdict.specs.Laws.{HasOneVerdict}
@@ -130,6 +131,7 @@ pub record Judges : Type 0 where
 -- what is found of renamed facts is what is found of the facts
 record AreFound (mode : Mode) (f : ℕ → ℕ) (networks : List Network) (facts : List Fact) (points others : List Point) (verdicts other_verdicts : List Verdict) : Type 0 where
   pub points_are : others ≡ map (renamed_point f) points
+  pub bindings_are : bindings_of (map (renamed_network f) networks) others ≡ bindings_of networks points
   pub verdicts_are : verdicts ≡ other_verdicts
   pub lines : findings_of mode (map (renamed_network f) networks) (map (renamed_fact f) facts) others other_verdicts ≡ findings_of mode networks facts points verdicts
 
@@ -147,6 +149,7 @@ module _ (laws : Judges) (f : ℕ → ℕ) (injective : IsInjective f) (mode : M
       let same = one_verdicts laws.verdict f mode facts gathered.points (bindings_of networks gathered.points) verdicts other_verdicts h verdicts_are in
       record {
         points_are = points;
+        bindings_are = bindings;
         verdicts_are = same;
         lines = (λ i. findings mode (map (renamed_fact f) facts) (map (renamed_network f) networks) (points i) (bindings i) (sym same i))
             ∙ findings_renamed f mode facts networks gathered.points (bindings_of networks gathered.points) verdicts;
@@ -159,19 +162,30 @@ module _ (laws : Judges) (f : ℕ → ℕ) (injective : IsInjective f) (mode : M
       (λ i. status_of (found.points_are i) (sym found.verdicts_are i)) ∙ status_renamed f h.points.points h.verdicts in
       h.is ∙ sym (k.is ∙ ap₂ (λ status lines. make_answer status lines) status found.lines)
 
+  -- what is said of the system is of one kind, and so is the status
+  module _ (lines : List Point → List Verdict → Joint → List ℕ) (other_lines : List Point → List Verdict → Joint → List ℕ) (one other : Answer)
+      (h : IsJudgedJointly lines mode networks facts one) (k : IsJudgedJointly other_lines mode (map (renamed_network f) networks) (map (renamed_fact f) facts) other) where
+    found_of : AreFound mode f networks facts h.points.points k.points.points h.verdicts k.verdicts
+    found_of = are_found h.points k.points h.verdicts k.verdicts h.points_are k.points_are h.verdicts_are k.verdicts_are
+
+    same_kind : kind_of h.joint ≡ kind_of k.joint
+    same_kind =
+        let system : h.system ≡ k.system = one_system_in f laws.certifies.range laws.certifies.ends laws.certifies.system injective mode networks facts h.system k.system
+        (record { points = h.points; points_are = h.points_are; system_is = h.system_is }) (record { points = k.points; points_are = k.points_are; system_is = k.system_is }) in
+        laws.kind h.system h.joint k.joint h.kept h.joint_is (subst (λ s. IsJointAnswer s k.joint) (sym system) k.joint_is)
+
+    same_status : joint_status k.points.points k.verdicts (kind_of k.joint) ≡ joint_status h.points.points h.verdicts (kind_of h.joint)
+    same_status = (λ i. joint_status (found_of.points_are i) (sym found_of.verdicts_are i) (sym same_kind i)) ∙ joint_status_renamed f h.points.points h.verdicts (kind_of h.joint)
+
   -- the findings are the same, and the joint parts are of one kind
   same_joint : (one other : Answer) → IsJointFindings mode networks facts one → IsJointFindings mode (map (renamed_network f) networks) (map (renamed_fact f) facts) other → AreOfOneKind one other
   same_joint one other h k =
       let found = are_found h.points k.points h.verdicts k.verdicts h.points_are k.points_are h.verdicts_are k.verdicts_are in
-      let system : h.system ≡ k.system = one_system_in f laws.certifies.range laws.certifies.ends laws.certifies.system injective mode networks facts h.system k.system
-      (record { points = h.points; points_are = h.points_are; system_is = h.system_is }) (record { points = k.points; points_are = k.points_are; system_is = k.system_is }) in
-      let kind : kind_of h.joint ≡ kind_of k.joint = laws.kind h.system h.joint k.joint h.kept h.joint_is (subst (λ s. IsJointAnswer s k.joint) (sym system) k.joint_is) in
-      let status : joint_status k.points.points k.verdicts (kind_of k.joint) ≡ joint_status h.points.points h.verdicts (kind_of h.joint) =
-      (λ i. joint_status (found.points_are i) (sym found.verdicts_are i) (sym kind i)) ∙ joint_status_renamed f h.points.points h.verdicts (kind_of h.joint) in
+      let kind : kind_of h.joint ≡ kind_of k.joint = same_kind _ _ one other h k in
       let first = begins facts h.joint in
       let second = begins (map (renamed_fact f) facts) k.joint in
       record {
-        status = ap (λ a. a.status) h.is ∙ sym (ap (λ a. a.status) k.is ∙ status);
+        status = ap (λ a. a.status) h.is ∙ sym (ap (λ a. a.status) k.is ∙ same_status _ _ one other h k);
         findings = findings_of mode networks facts h.points.points h.verdicts;
         kind = kind_of h.joint;
         rest = first.0;
@@ -179,6 +193,14 @@ module _ (laws : Judges) (f : ℕ → ℕ) (injective : IsInjective f) (mode : M
         one_is = ap (λ a. a.text) h.is ∙ ap (λ lines. findings_of mode networks facts h.points.points h.verdicts ++ lines) first.1;
         other_is = ap (λ a. a.text) k.is ∙ ap₂ (λ found lines. found ++ lines) found.lines (second.1 ∙ ap (λ kind. kind_line kind ++ second.0) (sym kind));
       }
+
+  -- the summary is the same
+  same_summary : (n root : ℕ) (one other : Answer) → IsSummary n root mode networks facts one → IsSummary n root mode (map (renamed_network f) networks) (map (renamed_fact f) facts) other → one ≡ other
+  same_summary n root one other h k =
+      let found = are_found h.points k.points h.verdicts k.verdicts h.points_are k.points_are h.verdicts_are k.verdicts_are in
+      let points : length k.points.points ≡ length h.points.points = ap length found.points_are ∙ length-map h.points.points (renamed_point f) in
+      let kind : kind_of h.joint ≡ kind_of k.joint = same_kind _ _ one other h k in
+      h.is ∙ sym (k.is ∙ (λ i. make_answer (same_status _ _ one other h k i) (summary n (length (found.bindings_are i)) (points i) (sym found.verdicts_are i) root (sym kind i))))
 
   -- where the joint part is asked the bindings are judged
   judged_joint : (one : Answer) → IsJointFindings mode networks facts one → IsJudged one.status
@@ -195,6 +217,7 @@ module _ (laws : Judges) (f : ℕ → ℕ) (injective : IsInjective f) (mode : M
   same_sought FindingsAlone one other h k = inl (same_findings one other h k)
   same_sought FindingsAndJoint one other h k = inr ((tt, judged_joint one h), same_joint one other h k)
   same_sought (JudgementOf word bytes) one other h k = inl (same_certified laws.certifies f injective mode word bytes networks facts one other h k)
+  same_sought (SummaryOf n root) one other h k = inl (same_summary n root one other h k)
 
 -- facts have one answer, whatever the numbers of names
 pub one_counted : Judges → (f : ℕ → ℕ) → IsInjective f → (asked : Asked) (networks : List Network) (facts : List Fact) (one other : Answer)

@@ -5,13 +5,15 @@ use Rattle.xc_io.specs.Shelf.{Files}
 use Rattle.xc_lines.specs.Lines.{usage_line}
 use Rattle.xc_report.specs.declared.reports.Fact.{Fact}
 use Rattle.xc_report.specs.declared.reports.Report.{Report}
+use Rattle.xc_sample.specs.Samples.{value}
 use Rattle.xc_top.specs.Answers.{make_answer}
 use Rattle.xc_top.specs.Certified.{IsJudgementIn}
 use Rattle.xc_top.specs.Contents.{HasContent}
 use Rattle.xc_top.specs.Documents.{first_unfetched}
-use Rattle.xc_top.specs.Findings.{IsFindings, IsJointFindings}
+use Rattle.xc_top.specs.Findings.{IsFindings, IsJointFindings, IsSummary}
 use Rattle.xc_top.specs.FirstFaults.{IsFirstFault}
-use Rattle.xc_top.specs.Words.{VerifyWords, CommandWords, SumOf, CheckOf, VerifyOf, file_words, words_of}
+use Rattle.xc_top.specs.Samples.{files_read, sample_check}
+use Rattle.xc_top.specs.Words.{VerifyWords, CommandWords, SumOf, CheckOf, VerifyOf, SampleOf, file_words, words_of}
 use Rattle.xc_top.specs.declared.status.Answer.{Answer}
 use Rattle.xc_top.specs.declared.status.Status.TheVariants.{Usage}
 
@@ -21,11 +23,12 @@ pub record IsHeldJudgement (verify : VerifyWords) (files : Files) (networks : Li
   pub held : files verify.certificate ≡ Some bytes
   pub judged : IsJudgementIn verify.over.mode bytes networks facts answer
 
--- what a command makes of networks and facts: `sum` the findings, `check` these and the joint part, `verify` the judgement of a certificate
+-- what a command makes of networks and facts: `sum` the findings, `check` these and the joint part, `verify` the judgement of a certificate, `sample` the summary
 abbrev pub IsMade : CommandWords → Files → List Network → List Fact → Answer → Type 0
 IsMade (SumOf sum) files networks facts answer = IsFindings sum.mode networks facts answer
 IsMade (CheckOf check) files networks facts answer = IsJointFindings check.mode networks facts answer
 IsMade (VerifyOf verify) files networks facts answer = IsHeldJudgement verify files networks facts answer
+IsMade (SampleOf n) files networks facts answer = IsSummary n (value n 0) sample_check.mode networks facts answer
 
 -- the answer is what the command makes of the content
 pub record IsMadeOfContent (command : CommandWords) (files : Files) (answer : Answer) : Type 0 where
@@ -38,10 +41,10 @@ pub record IsMadeOfContent (command : CommandWords) (files : Files) (answer : An
 abbrev pub IsHeldAnswer : CommandWords → Files → Answer → Type 0
 IsHeldAnswer command files answer = IsFirstFault command files answer ⊎ IsMadeOfContent command files answer
 
--- all files are held and none is too long, and this is answered of them
+-- all files are held and none is too long, and this is answered of those in which the command reads
 pub record IsFetchedAnswer (command : CommandWords) (files : Files) (answer : Answer) : Type 0 where
   pub fetched : first_unfetched files (file_words command) ≡ None
-  pub answered : IsHeldAnswer command files answer
+  pub answered : IsHeldAnswer command (files_read command files) answer
 
 -- what is answered of a command: the first of its files that is not held or too long, or else what is answered of them
 abbrev pub IsCommandAnswer : CommandWords → Files → Answer → Type 0

@@ -1,4 +1,4 @@
--- The content of words and files: the networks and the facts, with what they come from.
+-- The content of words and of the files in which they are read: the networks and the facts, with what they come from.
 use Rattle.std.specs.Prelude.{◌≡◌, ℕ, ◌+◌, ◌*◌, ◌^◌, List, [], ◌∷◌, length, Bool, false, not, nat_lt, Some, None, Ok}
 use Rattle.std.specs.List.{zip}
 use Rattle.xc_calc.specs.declared.arc.Network.{Network}
@@ -15,9 +15,10 @@ use Rattle.xc_report.specs.Wanted.{known_of}
 use Rattle.xc_report.specs.declared.reports.Report.{Report}
 use Rattle.xc_report.specs.declared.stated.StatedFact.{StatedFact}
 use Rattle.xc_top.specs.Documents.{AreDocumentsOf}
+use Rattle.xc_top.specs.Samples.{sample_check}
 use Rattle.xc_top.specs.Sums.{AreSumNumbers, named_words, sum_network, unbound}
 use Rattle.xc_top.specs.Taxonomies.{IsTaxonomyOf}
-use Rattle.xc_top.specs.Words.{SumWords, CheckWords, CommandWords, SumOf, CheckOf, VerifyOf}
+use Rattle.xc_top.specs.Words.{SumWords, CheckWords, CommandWords, SumOf, CheckOf, VerifyOf, SampleOf}
 use Rattle.xc_top.specs.declared.documents.Document.{Document}
 
 -- the word of the report
@@ -25,6 +26,7 @@ abbrev pub report_word : CommandWords → List ℕ
 report_word (SumOf sum) = sum.report
 report_word (CheckOf check) = check.report
 report_word (VerifyOf verify) = verify.over.report
+report_word (SampleOf n) = sample_check.report
 
 -- the report that is held opens to these parts
 pub record IsOpen (word : List ℕ) (files : Files) (parts : Opened) : Type 0 where
@@ -51,6 +53,7 @@ abbrev pub IsSaid : CommandWords → Files → Opened → List Expanded → List
 IsSaid (SumOf sum) files parts names networks wanted = IsSaidByWords sum parts names networks wanted
 IsSaid (CheckOf check) files parts names networks wanted = IsSaidByDocuments check files names networks wanted
 IsSaid (VerifyOf verify) files parts names networks wanted = IsSaidByDocuments verify.over files names networks wanted
+IsSaid (SampleOf n) files parts names networks wanted = IsSaidByDocuments sample_check files names networks wanted
 
 -- the report is open, and this is said of networks and of the concepts that are wanted of it
 pub record IsReadOver (command : CommandWords) (files : Files) (parts : Opened) (names : List Expanded) (networks : List Network) (wanted : Wanted) : Type 0 where

@@ -1,11 +1,10 @@
 -- What is found of facts: their data points, the bindings of the networks, a verdict for each, and what is said of all of them together.
-use Rattle.std.specs.Prelude.{◌≡◌, ◌++◌, ℕ, List, [], ◌∷◌, Bool, true, false, ◌||◌, if◌then◌else◌}
+use Rattle.std.specs.Prelude.{◌≡◌, ◌++◌, ℕ, List, [], ◌∷◌, length, Bool, true, false, ◌||◌, if◌then◌else◌}
 use Rattle.std.specs.List.{list_any}
 use Rattle.xc_bind.specs.Bindings.{bindings_of}
 use Rattle.xc_bind.specs.Systems.{IsSystemOf}
 use Rattle.xc_bind.specs.declared.types.Binding.{Binding}
 use Rattle.xc_bind.specs.declared.types.Verdict.{Verdict}
-use Rattle.xc_bind.specs.declared.types.Verdict.TheVariants as verdict
 use Rattle.xc_calc.specs.declared.arc.Network.{Network}
 use Rattle.xc_interval.specs.Ranges.{is_empty_range}
 use Rattle.xc_interval.specs.declared.mode.Mode.{Mode}
@@ -14,6 +13,8 @@ use Rattle.xc_joint.specs.Kinds.{Kind, Solved, Contradicted, Caused, kind_of}
 use Rattle.xc_joint.specs.declared.types.Joint.{Joint}
 use Rattle.xc_lines.specs.Findings.{findings}
 use Rattle.xc_lines.specs.Joints.{joint_lines}
+use Rattle.xc_lines.specs.Summary.{summary}
+pub use Rattle.xc_lines.specs.Summary.{is_inconsistent, is_too_wide}
 use Rattle.xc_points.specs.Gathered.{ArePoints}
 use Rattle.xc_points.specs.Kept.{Gathered}
 use Rattle.xc_points.specs.declared.types.Point.{Point}
@@ -26,20 +27,6 @@ use Rattle.xc_top.specs.declared.status.Status.TheVariants.{Sound, Findings, Too
 use Rattle.xc_verdict.specs.Verdicts.{IsVerdict}
 
 -- ---- verdicts
-
--- a total disagrees with its contributors
-abbrev pub is_inconsistent : Verdict → Bool
-is_inconsistent verdict.Consistent = false
-is_inconsistent verdict.Inconsistent = true
-is_inconsistent verdict.Unjudged = false
-is_inconsistent verdict.TooWide = false
-
--- a binding passes the widths in which verdicts are computed
-abbrev pub is_too_wide : Verdict → Bool
-is_too_wide verdict.Consistent = false
-is_too_wide verdict.Inconsistent = false
-is_too_wide verdict.Unjudged = false
-is_too_wide verdict.TooWide = true
 
 -- no value satisfies all facts of a data point: duplicates disagree
 abbrev pub is_empty_point : Point → Bool
@@ -93,8 +80,8 @@ joint_status points verdicts kind =
     else if list_any is_too_wide verdicts || is_caused kind then TooWide
     else Sound
 
--- the findings of facts, and behind them what is said of the system of their points and bindings
-pub record IsJointFindings (mode : Mode) (networks : List Network) (facts : List Fact) (answer : Answer) : Type 0 where
+-- what is found of facts, and what is said of the system of their points and bindings; so it is written
+pub record IsJudgedJointly (lines : List Point → List Verdict → Joint → List ℕ) (mode : Mode) (networks : List Network) (facts : List Fact) (answer : Answer) : Type 0 where
   pub points : Gathered
   pub points_are : ArePoints mode facts points
   pub verdicts : List Verdict
@@ -105,4 +92,12 @@ pub record IsJointFindings (mode : Mode) (networks : List Network) (facts : List
   pub small : IsSmall system
   pub joint : Joint
   pub joint_is : IsAnswer system joint
-  pub is : answer ≡ make_answer (joint_status points.points verdicts (kind_of joint)) (findings_of mode networks facts points.points verdicts ++ joint_lines facts joint)
+  pub is : answer ≡ make_answer (joint_status points.points verdicts (kind_of joint)) (lines points.points verdicts joint)
+
+-- the findings of facts, and behind them the joint part
+abbrev pub IsJointFindings : Mode → List Network → List Fact → Answer → Type 0
+IsJointFindings mode networks facts answer = IsJudgedJointly (λ points verdicts joint. findings_of mode networks facts points verdicts ++ joint_lines facts joint) mode networks facts answer
+
+-- the summary of the facts of a sample of n nodes, of which the first has the value `root`
+abbrev pub IsSummary : ℕ → ℕ → Mode → List Network → List Fact → Answer → Type 0
+IsSummary n root mode networks facts answer = IsJudgedJointly (λ points verdicts joint. summary n (length (bindings_of networks points)) (length points) verdicts root (kind_of joint)) mode networks facts answer

@@ -14,9 +14,10 @@ use Rattle.xc_top.specs.Answers.{refused, report_refusal}
 use Rattle.xc_top.specs.Certified.{IsNoCertificate}
 use Rattle.xc_top.specs.Contents.{IsOpen, IsSaidByDocuments, IsReadOver, IsReadFrom, HasContent, are_too_many, report_word}
 use Rattle.xc_top.specs.Documents.{AreDocumentsOf}
+use Rattle.xc_top.specs.Samples.{sample_check}
 use Rattle.xc_top.specs.Sums.{named_words, unbound}
 use Rattle.xc_top.specs.Taxonomies.{IsTaxonomyRefusal}
-use Rattle.xc_top.specs.Words.{SumWords, CheckWords, VerifyWords, CommandWords, SumOf, CheckOf, VerifyOf}
+use Rattle.xc_top.specs.Words.{SumWords, CheckWords, VerifyWords, CommandWords, SumOf, CheckOf, VerifyOf, SampleOf}
 use Rattle.xc_top.specs.declared.documents.Document.{Document}
 use Rattle.xc_top.specs.declared.status.Answer.{Answer}
 
@@ -53,6 +54,7 @@ abbrev pub IsNotSaid : CommandWords → Files → Answer → Type 0
 IsNotSaid (SumOf sum) files answer = IsNotOpen sum.report files answer ⊎ LacksPrefix sum files answer
 IsNotSaid (CheckOf check) files answer = AreRefused check files answer ⊎ IsNotOpenOver check files answer
 IsNotSaid (VerifyOf verify) files answer = AreRefused verify.over files answer ⊎ IsNotOpenOver verify.over files answer
+IsNotSaid (SampleOf n) files answer = AreRefused sample_check files answer ⊎ IsNotOpenOver sample_check files answer
 
 -- a fact of the report cannot be read
 pub record AreUnread (command : CommandWords) (files : Files) (answer : Answer) : Type 0 where
@@ -87,6 +89,7 @@ abbrev pub IsUncertified : CommandWords → Files → Answer → Type 0
 IsUncertified (SumOf sum) files answer = ⊥
 IsUncertified (CheckOf check) files answer = ⊥
 IsUncertified (VerifyOf verify) files answer = LacksCertificate verify files answer
+IsUncertified (SampleOf n) files answer = ⊥
 
 -- the first fault of words and files, and what is answered of it: documents, report or names are refused; or else its facts are not read; or else they are too many; or else there is no certificate
 abbrev pub IsFirstFault : CommandWords → Files → Answer → Type 0

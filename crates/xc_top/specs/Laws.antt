@@ -1,11 +1,12 @@
 -- What follows from the definitions.
-use Rattle.std.specs.Prelude.{◌≡◌, ◌⊎◌, ◌++◌, ℕ, List, Option, Some, None, codes}
+use Rattle.std.specs.Prelude.{◌≡◌, ◌⊎◌, ◌++◌, ℕ, List, Option, Some, None}
 use Rattle.xc_io.specs.Shelf.{Files}
-use Rattle.xc_joint.specs.Kinds.{Kind, Solved, Contradicted, Caused}
+use Rattle.xc_joint.specs.Kinds.{Kind}
+use Rattle.xc_lines.specs.Summary.{kind_line}
 use Rattle.xc_top.specs.Answer.{IsAnswerOf}
 use Rattle.xc_top.specs.Documents.{AreDocumentsOf}
 use Rattle.xc_top.specs.Run.{IsJudged}
-use Rattle.xc_top.specs.Words.{CommandWords, SumOf, CheckOf, VerifyOf, words_of}
+use Rattle.xc_top.specs.Words.{CommandWords, SumOf, CheckOf, VerifyOf, SampleOf, words_of}
 use Rattle.xc_top.specs.declared.documents.Document.{Document}
 use Rattle.xc_top.specs.declared.status.Answer.{Answer}
 
@@ -19,14 +20,9 @@ IsCheck None = ⊥
 IsCheck (Some (SumOf sum)) = ⊥
 IsCheck (Some (CheckOf check)) = Unit {0}
 IsCheck (Some (VerifyOf verify)) = ⊥
+IsCheck (Some (SampleOf n)) = ⊥
 
--- the first line of a joint part
-abbrev pub kind_line : Kind → List ℕ
-kind_line Solved = codes "joint feasible\n"
-kind_line Contradicted = codes "joint infeasible\n"
-kind_line Caused = codes "joint too-wide\n"
-
--- the same status and the same findings, behind which joint parts of one kind stand: the certificate, or the causes, may be others
+-- the same status and the same findings, behind which joint parts with the same first line stand: the certificate, or the causes, may be others
 pub record AreOfOneKind (one other : Answer) : Type 0 where
   pub status : one.status ≡ other.status
   pub findings : List ℕ

@@ -8,6 +8,7 @@ pub mod FirstFaults
 pub mod Laws
 pub mod Proven
 pub mod Run
+pub mod Samples
 pub mod Settled
 pub mod Status
 pub mod Steps

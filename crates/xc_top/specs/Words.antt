@@ -1,10 +1,12 @@
 -- Which words are accepted, and what they name.
-use Rattle.std.specs.Prelude.{ℕ, List, [], ◌∷◌, Bool, false, ◌&&◌, ◌||◌, ◌==◌, not, nat_lt, length, drop, map, Option, Some, None, is_some, option_map, String, string_bytes, codes, if◌then◌else◌}
+use Rattle.std.specs.Prelude.{ℕ, List, [], ◌∷◌, Bool, false, ◌&&◌, ◌||◌, ◌==◌, not, nat_lt, nat_le, length, drop, map, Option, Some, None, is_some, option_map, String, string_bytes, codes, if◌then◌else◌}
+use Rattle.std.specs.Char.{is_ascii_digit}
 use Rattle.std.specs.List.{list_all}
 use Rattle.std.specs.Str.{bytes_eq}
 use Rattle.std.specs.declared.alloc.Global.{Global}
 use Rattle.xc_calc.specs.declared.arc.ArcKind.{ArcKind}
 use Rattle.xc_calc.specs.declared.arc.ArcKind.TheVariants.{New, Old}
+use Rattle.xc_decimal.specs.Digits.{number_of}
 use Rattle.xc_interval.specs.declared.mode.Mode.{Mode}
 use Rattle.xc_interval.specs.declared.mode.Mode.TheVariants.{Rounding, Truncation}
 use Rattle.xc_chars.specs.PlainNames.{split}
@@ -28,11 +30,12 @@ pub record VerifyWords : Type 0 where
   pub certificate : List ℕ
   pub over : CheckWords
 
--- what accepted words ask for
+-- what accepted words ask for; of `sample` they say how many nodes it has
 pub data CommandWords : Type 0 where
   SumOf : SumWords → CommandWords
   CheckOf : CheckWords → CommandWords
   VerifyOf : VerifyWords → CommandWords
+  SampleOf : ℕ → CommandWords
 
 -- a word that names a file: not empty, and no `-` at its head
 abbrev pub is_file_word : List ℕ → Bool
@@ -117,6 +120,28 @@ verify_of_kind kind _ = None
 abbrev pub verify_of : List (List ℕ) → Option VerifyWords
 verify_of words = verify_of_kind (arcs_chosen words).0 (arcs_chosen words).1
 
+-- decimal digits, of which the first is not 0
+abbrev pub is_numeral : List ℕ → Bool
+is_numeral [] = false
+is_numeral (first ∷ rest) = not (first == 48) && list_all is_ascii_digit (first ∷ rest)
+
+-- a sample has from 2 to 100,000 nodes
+abbrev pub is_size : ℕ → Bool
+is_size n = nat_le 2 n && nat_le n 100000
+
+-- this number of nodes, where a sample may have so many
+abbrev pub size : ℕ → Option ℕ
+size n = if is_size n then Some n else None
+
+-- the number of nodes that a word spells
+abbrev pub size_of : List ℕ → Option ℕ
+size_of word = if is_numeral word then size (number_of word) else None
+
+-- what the words behind `sample` name
+abbrev pub sample_of : List (List ℕ) → Option ℕ
+sample_of (word ∷ []) = size_of word
+sample_of _ = None
+
 -- what these words ask for, where they are accepted
 abbrev pub words_of : List (List ℕ) → Option CommandWords
 words_of [] = None
@@ -124,13 +149,15 @@ words_of (command ∷ words) =
     if bytes_eq command (codes "sum") then option_map SumOf (sum_of words)
     else if bytes_eq command (codes "check") then option_map CheckOf (check_of words)
     else if bytes_eq command (codes "verify") then option_map VerifyOf (verify_of words)
+    else if bytes_eq command (codes "sample") then option_map SampleOf (sample_of words)
     else None
 
--- the files that are read, in the order in which they are fetched: the certificate, the report, and then the documents
+-- the files that are read, in the order in which they are fetched: the certificate, the report, and then the documents; `sample` reads none
 abbrev pub file_words : CommandWords → List (List ℕ)
 file_words (SumOf sum) = sum.report ∷ []
 file_words (CheckOf check) = check.report ∷ check.documents
 file_words (VerifyOf verify) = verify.certificate ∷ verify.over.report ∷ verify.over.documents
+file_words (SampleOf n) = []
 
 -- the files that words name; words that are not accepted name none
 abbrev pub files_named : Option CommandWords → List (List ℕ)

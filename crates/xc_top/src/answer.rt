@@ -1,13 +1,14 @@
 // What a command answers.
 ghost use Rattle.std.specs.Prelude.{◌≡◌, length, IfOk};
 ghost use Rattle.xc_top.specs.Steps.Stops.{Answers, IsAnswerIn, IsEnding};
-ghost use Rattle.xc_top.specs.Steps.Named.{named, named_sum, named_check, named_verify};
+ghost use Rattle.xc_top.specs.Steps.Named.{IsSized, named, named_sum, named_check, named_verify};
 ghost use Rattle.xc_top.specs.Steps.Fetches.{IsOver, Leaves};
 ghost use Rattle.xc_top.specs.Words.{SumOf, CheckOf, VerifyOf, file_words};
 
 use crate::check::answer_documents;
 use crate::documents::{fetch, fetch_documents};
 use crate::judged::Goal;
+use crate::sample::answer_sample;
 use crate::status::{Answer, Stop};
 use crate::sum::answer_report;
 use crate::words::{Check, Command, Sum, Verify};
@@ -21,6 +22,7 @@ pub fn answer_command<S: Shelf>(
     command: &Command<'_>,
     shelf: &mut S,
 ) -> Result<Answer, Memory>
+    requires { IsSized (named command.now) }
     ensures answer { IfOk result (λ answer. IsOver S.held S.steady S.faults shelf.old shelf.new (named command.now) answer) }
     ensures ends { IfOk result (λ answer. IsEnding answer.status) }
     ensures left { Leaves S.held S.steady S.faults S.fetches shelf.old shelf.new (length (file_words (named command.now))) }
@@ -40,6 +42,7 @@ fn answer_in(answer: Result<Answer, Stop>) -> Result<Answer, Memory>
 }
 
 fn answer_of<S: Shelf>(alloc: Global, command: &Command<'_>, shelf: &mut S) -> Result<Answer, Stop>
+    requires { IsSized (named command.now) }
     ensures answer { Answers result (λ answer. IsOver S.held S.steady S.faults shelf.old shelf.new (named command.now) answer) }
     ensures left { Leaves S.held S.steady S.faults S.fetches shelf.old shelf.new (length (file_words (named command.now))) }
 {
@@ -47,6 +50,7 @@ fn answer_of<S: Shelf>(alloc: Global, command: &Command<'_>, shelf: &mut S) -> R
         Command::Sum(sum) => answer_sum(alloc, sum, shelf),
         Command::Check(check) => answer_check(alloc, check, shelf),
         Command::Verify(verify) => answer_verify(alloc, verify, shelf),
+        Command::Sample(count) => answer_sample(alloc, *count),
     }
 }
 

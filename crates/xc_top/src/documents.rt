@@ -79,8 +79,8 @@ fn fetch_document<S: Shelf>(alloc: Global, word: &str, shelf: &mut S) -> Result<
     Ok(document_of(alloc, word, &bytes)?)
 }
 
-// The document of these bytes.
-fn document_of(alloc: Global, word: &str, bytes: &[u8]) -> Result<Document, Memory>
+/// The document of these bytes. The only error is want of memory.
+pub fn document_of(alloc: Global, word: &str, bytes: &[u8]) -> Result<Document, Memory>
     requires { length bytes.now ≤ limit }
     ensures word { IfOk result (λ document. document.word ≡ word.now) }
     ensures content { IfOk result (λ document. IsContentOf bytes.now document.content) }

@@ -36,7 +36,12 @@ pub fn answer_joint(
     let found = found_of(alloc, mode, report, networks)?;
     let system = system(alloc, &found.points, &found.bindings)?;
     let part = part_of(alloc, report, &system)?;
-    let status = status_by(found.points.as_slice(), &found.verdicts, &part);
+    let status = status_by(
+        found.points.as_slice(),
+        &found.verdicts,
+        part.contradicted,
+        part.caused,
+    );
     let mut text = found.lines;
     text.extend_from_slice(&part.lines)?;
     Ok(Answer {
@@ -70,7 +75,8 @@ fn part_of(alloc: Global, report: &Report, system: &System) -> Result<JointPart,
     })
 }
 
-fn is_contradicted(joint: &Joint) -> bool
+/// Whether no assignment satisfies all.
+pub fn is_contradicted(joint: &Joint) -> bool
     ensures { result ≡ is_contradicted (kind_of joint.now) }
 {
     match joint {
@@ -80,7 +86,8 @@ fn is_contradicted(joint: &Joint) -> bool
     }
 }
 
-fn is_caused(joint: &Joint) -> bool
+/// Whether some component has no answer.
+pub fn is_caused(joint: &Joint) -> bool
     ensures { result ≡ is_caused (kind_of joint.now) }
 {
     match joint {
@@ -89,16 +96,21 @@ fn is_caused(joint: &Joint) -> bool
     }
 }
 
-// How the run ends: with findings where there is one, or no assignment satisfies all; else too wide where a binding is,
-// or some component has no answer; else sound.
-fn status_by(points: &[Point], verdicts: &[Verdict], part: &JointPart) -> Status
-    ensures status { result ≡ status_by points.now verdicts.now part.now.contradicted part.now.caused }
+/// How the run ends: with findings where there is one, or no assignment satisfies all; else too wide where a binding is,
+/// or some component has no answer; else sound.
+pub fn status_by(
+    points: &[Point],
+    verdicts: &[Verdict],
+    contradicted: bool,
+    caused: bool,
+) -> Status
+    ensures status { result ≡ status_by points.now verdicts.now contradicted caused }
     ensures settles { IsSettled result }
 {
-    if has_finding(points, verdicts) || part.contradicted {
+    if has_finding(points, verdicts) || contradicted {
         return Status::Findings;
     }
-    if any_too_wide(verdicts) || part.caused {
+    if any_too_wide(verdicts) || caused {
         return Status::TooWide;
     }
     Status::Sound

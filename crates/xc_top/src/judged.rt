@@ -10,6 +10,7 @@ use crate::certified::answer_certificate;
 use crate::found::answer_findings;
 use crate::joint::answer_joint;
 use crate::refusals::{coded_refusal, report_refusal};
+use crate::sample::answer_summary;
 use crate::status::{Answer, Stop};
 use std::alloc::Global;
 use xc_calc::Network;
@@ -36,6 +37,8 @@ pub enum Goal<'a> {
     Joint,
     /// The judgement of a certificate, by the word of its file and its bytes.
     Judgement(&'a str, &'a [u8]),
+    /// The summary of a sample, by how many nodes it has and the value of the first.
+    Summary(u32, u64),
 }
 
 /// What is sought in the facts of an opened report, or their fault.
@@ -74,6 +77,9 @@ fn answer_question(
         Goal::Joint => Ok(answer_joint(alloc, question.mode, report, networks)?),
         Goal::Judgement(word, bytes) => {
             answer_certificate(alloc, question.mode, word, bytes, report, networks)
+        }
+        Goal::Summary(count, root) => {
+            Ok(answer_summary(alloc, question.mode, count, root, report, networks)?)
         }
     }
 }

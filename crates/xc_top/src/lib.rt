@@ -10,6 +10,7 @@ mod joint;
 mod judged;
 pub mod laws;
 mod refusals;
+mod sample;
 mod status;
 mod sum;
 mod taxonomy;

@@ -28,7 +28,8 @@ use xc_verify::laws::acceptance_proves;
 /// - `sum MODE REPORT TOTAL TERM...` with one TERM or more: TOTAL is the name `prefix:local` of a concept; a TERM is
 ///   `+` or `-` and such a name;
 /// - `check [--old-arcs] MODE REPORT DOC...` with one DOC or more;
-/// - `verify [--old-arcs] MODE CERTIFICATE REPORT DOC...` with one DOC or more.
+/// - `verify [--old-arcs] MODE CERTIFICATE REPORT DOC...` with one DOC or more;
+/// - `sample N`, where N is digits without a leading zero, from 2 to 100000.
 ///
 /// MODE is `rounding` or `truncation`. CERTIFICATE, REPORT and each DOC are names of files, not empty and without `-` at their
 /// heads.

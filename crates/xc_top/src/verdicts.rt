@@ -10,6 +10,7 @@ ghost use Rattle.xc_top.specs.Findings.{AreVerdicts, status_of, has_finding, is_
 use crate::Status;
 use std::alloc::Global;
 use xc_bind::{Binding, Verdict};
+use xc_lines::{is_inconsistent, is_too_wide};
 use xc_lists::Memory;
 use xc_points::{Point, Points};
 use xc_verdict::verdict;
@@ -59,29 +60,11 @@ fn any_inconsistent(verdicts: &[Verdict]) -> bool
     verdicts.iter().any(|verdict| is_inconsistent(*verdict))
 }
 
-fn is_inconsistent(verdict: Verdict) -> bool
-    ensures { result ≡ is_inconsistent verdict }
-{
-    match verdict {
-        Verdict::Inconsistent => true,
-        Verdict::Consistent | Verdict::Unjudged | Verdict::TooWide => false,
-    }
-}
-
 /// Whether a binding is too wide.
 pub fn any_too_wide(verdicts: &[Verdict]) -> bool
     ensures { result ≡ list_any is_too_wide verdicts.now }
 {
     verdicts.iter().any(|verdict| is_too_wide(*verdict))
-}
-
-fn is_too_wide(verdict: Verdict) -> bool
-    ensures { result ≡ is_too_wide verdict }
-{
-    match verdict {
-        Verdict::TooWide => true,
-        Verdict::Consistent | Verdict::Inconsistent | Verdict::Unjudged => false,
-    }
 }
 
 fn any_empty(points: &[Point]) -> bool

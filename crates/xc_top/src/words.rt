@@ -1,7 +1,9 @@
 // The words of a command line.
+ghost use Rattle.std.specs.Char.{is_ascii_digit};
+ghost use Rattle.std.specs.List.{list_all};
 ghost use Rattle.std.specs.Prelude.{◌≡◌, ◌∷◌, option_map, string_bytes, map};
 ghost use Rattle.xc_top.specs.Steps.Named.{named, named_check, named_sum, named_verify};
-ghost use Rattle.xc_top.specs.Words.{SumOf, CheckOf, VerifyOf, words_of, sum_of, check_of, check_of_kind, verify_of, verify_of_kind, arcs_chosen, texts, mode_of, is_file_word, are_file_words, is_name_word, is_signed, is_term_word, is_sum, are_terms, name_of, is_negative};
+ghost use Rattle.xc_top.specs.Words.{SumOf, CheckOf, VerifyOf, SampleOf, words_of, sum_of, check_of, check_of_kind, verify_of, verify_of_kind, arcs_chosen, texts, mode_of, is_file_word, are_file_words, is_name_word, is_signed, is_term_word, is_sum, are_terms, name_of, is_negative, sample_of, size_of, size, is_numeral};
 
 use xc_calc::ArcKind;
 use xc_chars::split;
@@ -48,6 +50,8 @@ pub enum Command<'a> {
     Sum(Sum<'a>),
     Check(Check<'a>),
     Verify(Verify<'a>),
+    /// The sample of this many nodes.
+    Sample(u32),
 }
 
 /// What these words ask for, where they are accepted.
@@ -63,6 +67,9 @@ pub fn read_words(words: &[String]) -> Option<Command<'_>>
     }
     if command.as_str() == "verify" {
         return as_verify(read_verify(words));
+    }
+    if command.as_str() == "sample" {
+        return as_sample(read_sample(words));
     }
     None
 }
@@ -90,6 +97,15 @@ fn as_verify(verify: Option<Verify<'_>>) -> Option<Command<'_>>
 {
     match verify {
         Some(verify) => Some(Command::Verify(verify)),
+        None => None,
+    }
+}
+
+fn as_sample<'a>(count: Option<u32>) -> Option<Command<'a>>
+    ensures { option_map named result ≡ option_map SampleOf count }
+{
+    match count {
+        Some(count) => Some(Command::Sample(count)),
         None => None,
     }
 }
@@ -136,6 +152,17 @@ fn read_verify(words: &[String]) -> Option<Verify<'_>>
         certificate: certificate.as_str(),
         over,
     })
+}
+
+// How many nodes the words behind `sample` name.
+fn read_sample(words: &[String]) -> Option<u32>
+    ensures { result ≡ sample_of (texts words.now) }
+{
+    let (count, words) = words.split_first()?;
+    if !words.is_empty() {
+        return None;
+    }
+    size_of(count.as_str())
 }
 
 // Which arcs count, and the words behind the one that chooses them.
@@ -262,4 +289,44 @@ pub fn is_negative(term: &str) -> bool
         [] => false,
         [sign, ..] => *sign == b'-',
     }
+}
+
+// The number of nodes that a word spells.
+fn size_of(word: &str) -> Option<u32>
+    ensures { result ≡ size_of word.now }
+{
+    if !is_numeral(word) {
+        return None;
+    }
+    match word.parse::<u32>() {
+        Ok(count) => size(count),
+        Err(_) => None,
+    }
+}
+
+// This number of nodes, where a sample may have so many.
+fn size(count: u32) -> Option<u32>
+    ensures { result ≡ size count }
+{
+    if count >= 2 && count <= 100_000 {
+        Some(count)
+    } else {
+        None
+    }
+}
+
+// Decimal digits, of which the first is not 0.
+fn is_numeral(word: &str) -> bool
+    ensures { result ≡ is_numeral word.now }
+{
+    match word.as_bytes() {
+        [] => false,
+        [first, ..] => *first != b'0' && are_digits(word.as_bytes()),
+    }
+}
+
+fn are_digits(bytes: &[u8]) -> bool
+    ensures { result ≡ list_all is_ascii_digit bytes.now }
+{
+    bytes.iter().all(|byte| byte.is_ascii_digit())
 }

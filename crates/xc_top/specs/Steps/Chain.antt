@@ -18,28 +18,32 @@ use Rattle.xc_report.specs.declared.reports.Fact.{Fact}
 use Rattle.xc_report.specs.declared.reports.Report.{Report}
 use Rattle.xc_report.specs.declared.reports.ReportFault.{ReportFault}
 use Rattle.xc_report.specs.declared.stated.StatedFact.{StatedFact}
+use Rattle.xc_sample.specs.Samples.{value}
 use Rattle.xc_top.specs.Answers.{refused, report_refusal}
 use Rattle.xc_top.specs.Certified.{IsJudgementIn, IsNoCertificate}
 use Rattle.xc_top.specs.Contents.{are_too_many}
 use Rattle.xc_top.specs.Documents.{AreDocumentsOf, first_unfetched}
-use Rattle.xc_top.specs.Findings.{IsFindings, IsJointFindings}
+use Rattle.xc_top.specs.Findings.{IsFindings, IsJointFindings, IsSummary}
+use Rattle.xc_top.specs.Samples.{files_read, sample_check}
 use Rattle.xc_top.specs.Sums.{AreSumNumbers, sum_network, named_words, unbound}
 use Rattle.xc_top.specs.Taxonomies.{IsTaxonomyOf, IsTaxonomyRefusal}
-use Rattle.xc_top.specs.Words.{SumWords, CheckWords, VerifyWords, CommandWords, SumOf, CheckOf, VerifyOf, file_words}
+use Rattle.xc_top.specs.Words.{SumWords, CheckWords, VerifyWords, CommandWords, SumOf, CheckOf, VerifyOf, SampleOf, file_words}
 use Rattle.xc_top.specs.declared.documents.Document.{Document}
 use Rattle.xc_top.specs.declared.status.Answer.{Answer}
 
--- what is sought in facts: their findings; these, with the joint part; or the judgement of a certificate, by the word of its file and its bytes
+-- what is sought in facts: their findings; these, with the joint part; the judgement of a certificate, by the word of its file and its bytes; or the summary of a sample, by how many nodes it has and the value of the first
 pub data Sought : Type 0 where
   FindingsAlone : Sought
   FindingsAndJoint : Sought
   JudgementOf : List ℕ → List ℕ → Sought
+  SummaryOf : ℕ → ℕ → Sought
 
 -- the joint part is among it
 abbrev pub IsJoint : Sought → Type 0
 IsJoint FindingsAlone = ⊥
 IsJoint FindingsAndJoint = Unit {0}
 IsJoint (JudgementOf word bytes) = ⊥
+IsJoint (SummaryOf n root) = ⊥
 
 -- what is asked of a report: its word, the mode, and what is sought in its facts
 pub record Asked : Type 0 where
@@ -56,6 +60,7 @@ abbrev pub IsSought : Mode → Sought → List Network → List Fact → Answer 
 IsSought mode FindingsAlone networks facts answer = IsFindings mode networks facts answer
 IsSought mode FindingsAndJoint networks facts answer = IsJointFindings mode networks facts answer
 IsSought mode (JudgementOf word bytes) networks facts answer = IsCertified mode word bytes networks facts answer
+IsSought mode (SummaryOf n root) networks facts answer = IsSummary n root mode networks facts answer
 
 -- what is answered of facts, which may be too many
 abbrev pub IsCounted : Asked → List Network → List Fact → Answer → Type 0
@@ -117,6 +122,14 @@ IsCheckAnswer check files answer = IsOverFiles check FindingsAndJoint files answ
 abbrev pub IsVerifyAnswer : VerifyWords → Files → Answer → Type 0
 IsVerifyAnswer verify files answer = (bytes : List ℕ) × (files verify.certificate ≡ Some bytes) × IsOverFiles verify.over (JudgementOf verify.certificate bytes) files answer
 
+-- what is sought in the facts of a sample
+abbrev pub sample_sought : ℕ → Sought
+sample_sought n = SummaryOf n (value n 0)
+
+-- what `sample` answers: the summary
+abbrev pub IsSampleAnswer : ℕ → Files → Answer → Type 0
+IsSampleAnswer n files answer = IsOverFiles sample_check (sample_sought n) files answer
+
 -- ---- `sum`
 
 -- what is asked of the report of `sum`
@@ -149,11 +162,12 @@ abbrev pub IsHeldStep : CommandWords → Files → Answer → Type 0
 IsHeldStep (SumOf sum) files answer = IsSumAnswer sum files answer
 IsHeldStep (CheckOf check) files answer = IsCheckAnswer check files answer
 IsHeldStep (VerifyOf verify) files answer = IsVerifyAnswer verify files answer
+IsHeldStep (SampleOf n) files answer = IsSampleAnswer n files answer
 
--- all files are held and none is too long, and this is answered of them
+-- all files are held and none is too long, and this is answered of those in which the command reads
 pub record IsFetchedStep (command : CommandWords) (files : Files) (answer : Answer) : Type 0 where
   pub fetched : first_unfetched files (file_words command) ≡ None
-  pub answered : IsHeldStep command files answer
+  pub answered : IsHeldStep command (files_read command files) answer
 
 -- what is answered of a command, step by step
 abbrev pub IsCommandStep : CommandWords → Files → Answer → Type 0

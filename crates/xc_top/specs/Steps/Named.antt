@@ -1,5 +1,6 @@
 -- What borrowed words name.
-use Rattle.xc_top.specs.Words.{SumWords, CheckWords, VerifyWords, CommandWords, SumOf, CheckOf, VerifyOf, texts}
+use Rattle.std.specs.Prelude.{◌≤◌}
+use Rattle.xc_top.specs.Words.{SumWords, CheckWords, VerifyWords, CommandWords, SumOf, CheckOf, VerifyOf, SampleOf, texts}
 use Rattle.xc_top.specs.declared.words.Check.{Check}
 use Rattle.xc_top.specs.declared.words.Command as lent
 use Rattle.xc_top.specs.declared.words.Command.TheVariants as command
@@ -23,3 +24,11 @@ abbrev pub named : lent.Command → CommandWords
 named (command.Sum sum) = SumOf (named_sum sum)
 named (command.Check check) = CheckOf (named_check check)
 named (command.Verify verify) = VerifyOf (named_verify verify)
+named (command.Sample count) = SampleOf count
+
+-- a sample that is named has as many nodes as a sample may have
+abbrev pub IsSized : CommandWords → Type 0
+IsSized (SumOf sum) = Unit {0}
+IsSized (CheckOf check) = Unit {0}
+IsSized (VerifyOf verify) = Unit {0}
+IsSized (SampleOf n) = (2 ≤ n) × (n ≤ 100000)

@@ -8,8 +8,13 @@ use Rattle.xc_top.specs.declared.status.Status.TheVariants as status
 use Rattle.xc_top.proofs.Accepted.{run_proven, none_proven, sound_written, sound_unread}
 use Rattle.xc_top.proofs.Leaving.{over_failed, over_told}
 use Rattle.xc_top.proofs.Ran.{usage_answer, usage_files, usage_unjudged, command_answer, command_held, fault_line, few_fetches, judged, lacking, read_fault_or_none, no_read_fault, no_write_fault, same_answer, read_or_write}
+use Rattle.xc_top.proofs.Sizes.{sized_words}
 use Rattle.xc_top.proofs.Stops.{if_any, if_then}
 use Rattle.xc_top.proofs.top.run.Goals as goal
+
+-- the number of nodes in accepted words is one that a sample may have
+pub answer_command-requires : goal.answer_command-requires
+answer_command-requires g c = sized_words _ (named c.in-Some.command) c.in-Some.ensures
 
 pub returns-in-Ok-clause-answer : goal.returns-in-Ok-clause-answer
 returns-in-Ok-clause-answer g c =

@@ -76,15 +76,15 @@ bound_more prefixes report all left rest term e none h =
     ∙ h
 
 -- what is answered of the facts is answered of the words
-pub numbered_answer : (sum : SumWords) (opened : Opened) (prefixes : Bindings) (names : List Expanded) (total : NameId) (terms : List NameId) (wanted : Wanted) (network : Network) (asked : Asked) (answer : Answer)
+pub numbered_answer : (sum : SumWords) (opened : Opened) (prefixes : Bindings) (names : List Expanded) (total : NameId) (terms : List NameId) (wanted : Wanted) (networks : List Network) (asked : Asked) (answer : Answer)
     → prefixes ≡ opened.prefixes → first_given (unbound prefixes sum.report) (named_words sum) ≡ None
     → number_in prefixes names sum.total ≡ Some total.0
     → map (λ term. number_in prefixes names (name_of term)) sum.terms ≡ map (λ id. Some id.0) terms
-    → network ≡ sum_network total (zip sum.terms terms)
+    → networks ≡ sum_network total (zip sum.terms terms) ∷ []
     → AreNodesOf (total ∷ terms) (map (λ id. id.0) wanted.nodes) → wanted.typed ≡ []
-    → asked ≡ sum_asked sum → IsFactsAnswer asked names (network ∷ []) wanted opened answer
+    → asked ≡ sum_asked sum → IsFactsAnswer asked names networks wanted opened answer
     → IsNumberedAnswer sum opened answer
-numbered_answer sum opened prefixes names total terms wanted network asked answer e bound total_is terms_are same nodes typed ask is = record {
+numbered_answer sum opened prefixes names total terms wanted networks asked answer e bound total_is terms_are same nodes typed ask is = record {
   bound = subst (λ p. first_given (unbound p sum.report) (named_words sum) ≡ None) e bound;
   names = names;
   total = total;
@@ -96,5 +96,5 @@ numbered_answer sum opened prefixes names total terms wanted network asked answe
     nodes = nodes;
     typed = typed;
   };
-  answered = subst (λ n. IsFactsAnswer (sum_asked sum) names (n ∷ []) wanted opened answer) same (subst (λ a. IsFactsAnswer a names (network ∷ []) wanted opened answer) ask is);
+  answered = subst (λ n. IsFactsAnswer (sum_asked sum) names n wanted opened answer) same (subst (λ a. IsFactsAnswer a names networks wanted opened answer) ask is);
 }

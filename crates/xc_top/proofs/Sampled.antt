@@ -19,8 +19,7 @@ pub sample_documents : (n : ℕ) (schema linkbase : List ℕ) (one other : Docum
     → AreDocumentsOf (sample_files n) sample_check.documents (one ∷ other ∷ [])
 sample_documents n schema linkbase one other schema_is linkbase_is named content other_named other_content = (
   record { named = named; bytes = schema; held = ap (λ bytes. Some bytes) (sym schema_is); content = content },
-  record { named = other_named; bytes = linkbase; held = ap (λ bytes. Some bytes) (sym linkbase_is); content = other_content },
-  tt,
+  (record { named = other_named; bytes = linkbase; held = ap (λ bytes. Some bytes) (sym linkbase_is); content = other_content }, tt),
 )
 
 -- what is answered of its documents and its report is answered of it

@@ -40,8 +40,8 @@ given (Ok n) = size n
 given (Err e) = None
 
 none_given : (n : ℕ) → (n < 2 ^ 32 → ⊥) → (b : Bool) → nat_lt n (2 ^ 32) ≡ b → None ≡ size n
-none_given n no true less = absurd (no (grind (arith, nat_tests)))
-none_given n no false more = too_large n (grind (arith, nat_tests)) (is_size n) refl
+none_given n passes true less = absurd (passes (grind (arith, nat_tests)))
+none_given n passes false more = too_large n (grind (arith, nat_tests)) (is_size n) refl
 
 told : {E : Type 0} (r : Result ℕ E) (some : ℕ) (n : ℕ) → 0 < some → OkIff r ((0 < some) × (n < 2 ^ 32)) n → given r ≡ size n
 told (Ok x) some n more h = ap size h.1

@@ -1,14 +1,14 @@
 // What a command answers.
-ghost use Rattle.std.specs.Prelude.{◌≡◌, length, IfOk};
+ghost use Rattle.std.specs.Prelude.{◌≡◌, ◌≤◌, length, IfOk};
 ghost use Rattle.xc_top.specs.Steps.Stops.{Answers, IsAnswerIn, IsEnding};
 ghost use Rattle.xc_top.specs.Steps.Named.{IsSized, named, named_sum, named_check, named_verify};
 ghost use Rattle.xc_top.specs.Steps.Fetches.{IsOver, Leaves};
-ghost use Rattle.xc_top.specs.Words.{SumOf, CheckOf, VerifyOf, file_words};
+ghost use Rattle.xc_top.specs.Words.{SumOf, CheckOf, VerifyOf, SampleOf, file_words};
 
 use crate::check::answer_documents;
 use crate::documents::{fetch, fetch_documents};
 use crate::judged::Goal;
-use crate::sample::answer_sample;
+use crate::sample::answer_size;
 use crate::status::{Answer, Stop};
 use crate::sum::answer_report;
 use crate::words::{Check, Command, Sum, Verify};
@@ -50,7 +50,7 @@ fn answer_of<S: Shelf>(alloc: Global, command: &Command<'_>, shelf: &mut S) -> R
         Command::Sum(sum) => answer_sum(alloc, sum, shelf),
         Command::Check(check) => answer_check(alloc, check, shelf),
         Command::Verify(verify) => answer_verify(alloc, verify, shelf),
-        Command::Sample(count) => answer_sample(alloc, *count),
+        Command::Sample(count) => answer_sample(alloc, *count, shelf),
     }
 }
 
@@ -59,7 +59,7 @@ fn answer_sum<S: Shelf>(alloc: Global, sum: &Sum<'_>, shelf: &mut S) -> Result<A
     ensures left { Leaves S.held S.steady S.faults S.fetches shelf.old shelf.new (length (file_words (SumOf (named_sum sum.now)))) }
 {
     let report = fetch(alloc, sum.report, shelf)?;
-    answer_report(alloc, sum, &report)
+    answer_report(alloc, sum, report)
 }
 
 fn answer_check<S: Shelf>(alloc: Global, check: &Check<'_>, shelf: &mut S) -> Result<Answer, Stop>
@@ -68,7 +68,7 @@ fn answer_check<S: Shelf>(alloc: Global, check: &Check<'_>, shelf: &mut S) -> Re
 {
     let report = fetch(alloc, check.report, shelf)?;
     let documents = fetch_documents(alloc, check.documents, shelf)?;
-    answer_documents(alloc, check, Goal::Joint, &report, documents)
+    answer_documents(alloc, check, Goal::Joint, report, documents)
 }
 
 fn answer_verify<S: Shelf>(
@@ -84,5 +84,15 @@ fn answer_verify<S: Shelf>(
     let report = fetch(alloc, over.report, shelf)?;
     let documents = fetch_documents(alloc, over.documents, shelf)?;
     let goal = Goal::Judgement(verify.certificate, &certificate);
-    answer_documents(alloc, over, goal, &report, documents)
+    answer_documents(alloc, over, goal, report, documents)
+}
+
+// A sample is made, and nothing is fetched.
+fn answer_sample<S: Shelf>(alloc: Global, count: u32, _shelf: &mut S) -> Result<Answer, Stop>
+    requires some { 2 ≤ count }
+    requires few { count ≤ 100000 }
+    ensures answer { Answers result (λ answer. IsOver S.held S.steady S.faults _shelf.old _shelf.new (SampleOf count) answer) }
+    ensures left { Leaves S.held S.steady S.faults S.fetches _shelf.old _shelf.new (length (file_words (SampleOf count))) }
+{
+    answer_size(alloc, count)
 }

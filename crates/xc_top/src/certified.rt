@@ -30,10 +30,10 @@ pub fn answer_certificate(
     word: &str,
     bytes: &[u8],
     report: &Report,
-    networks: &[Network],
+    networks: Vec<Network>,
 ) -> Result<Answer, Stop>
-    requires { are_too_many (length report.now.facts) (length networks.now) ≡ false }
-    ensures answer { Answers result (λ answer. IsCertified mode word.now bytes.now networks.now report.now.facts answer) }
+    requires { are_too_many (length report.now.facts) (length networks.items) ≡ false }
+    ensures answer { Answers result (λ answer. IsCertified mode word.now bytes.now networks.items report.now.facts answer) }
     ensures settles { Answers result (λ answer. IsSettled answer.status) }
 {
     let certificate = certificate_in(alloc, word, bytes)?;
@@ -58,13 +58,14 @@ fn system_in(
     alloc: Global,
     mode: Mode,
     report: &Report,
-    networks: &[Network],
+    networks: Vec<Network>,
 ) -> Result<System, Memory>
-    requires { are_too_many (length report.now.facts) (length networks.now) ≡ false }
-    ensures system { IfOk result (IsSystemIn mode networks.now report.now.facts) }
+    requires { are_too_many (length report.now.facts) (length networks.items) ≡ false }
+    ensures system { IfOk result (IsSystemIn mode networks.items report.now.facts) }
 {
     let points = points(alloc, report, mode)?;
-    let bindings = bindings(alloc, networks, &points)?;
+    let bindings = bindings(alloc, networks.as_slice(), &points)?;
+    drop(networks);
     system(alloc, &points, &bindings)
 }
 

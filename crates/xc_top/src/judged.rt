@@ -1,13 +1,15 @@
 // What is answered of the facts of a report.
-ghost use Rattle.std.specs.Prelude.{◌≡◌, ◌<◌, ◌*◌, ◌+◌, ◌^◌, IfOk, length, false};
+ghost use Rattle.std.specs.Prelude.{◌≡◌, ◌<◌, ◌*◌, ◌+◌, ◌^◌, Ok, Err, IfOk, IfErr, length, false};
 ghost use Rattle.xc_report.specs.Drafts.{draft_view};
+ghost use Rattle.xc_report.specs.Opened.{opened};
+ghost use Rattle.xc_report.specs.declared.reports.ReportFault.TheVariants as ReportFault;
 ghost use Rattle.xc_top.specs.Steps.Stops.{Answers, IsSettled};
 ghost use Rattle.xc_top.specs.Contents.{are_too_many};
 ghost use Rattle.xc_top.specs.Steps.Chain.{IsFactsAnswer, IsCounted};
 ghost use Rattle.xc_top.specs.Steps.Views.{asked};
 
 use crate::certified::answer_certificate;
-use crate::found::answer_findings;
+use crate::findings::answer_findings;
 use crate::joint::answer_joint;
 use crate::refusals::{coded_refusal, report_refusal};
 use crate::sample::answer_summary;
@@ -15,8 +17,9 @@ use crate::status::{Answer, Stop};
 use std::alloc::Global;
 use xc_calc::Network;
 use xc_interval::Mode;
+use xc_lists::Items;
 use xc_names::{Names, Wanted};
-use xc_report::{Draft, Report};
+use xc_report::{Draft, Report, ReportFault, open_report};
 
 /// What is asked of a report.
 #[derive(Drop)]
@@ -41,21 +44,44 @@ pub enum Goal<'a> {
     Summary(u32, u64),
 }
 
-/// What is sought in the facts of an opened report, or their fault.
+/// A report opened from its bytes, which are let go.
+pub fn draft_of(alloc: Global, bytes: Vec<u8>) -> Result<Draft, ReportFault>
+    ensures draft { IfOk result (λ draft. opened bytes.items ≡ Ok (draft_view draft)) }
+    ensures fault { IfErr result (λ e. ¬ (e ≡ ReportFault.Memory) → opened bytes.items ≡ Err e) }
+{
+    open_report(alloc, bytes.as_slice())
+}
+
+/// What is sought in the facts of an opened report, or their fault. The names, the wanted
+/// concepts and the keys are let go once the facts are read: no line speaks of them.
 pub fn answer_facts(
     alloc: Global,
     question: &Question<'_>,
     draft: Draft,
-    names: &mut Names,
-    networks: &[Network],
-    wanted: &Wanted,
+    names: Names,
+    networks: Vec<Network>,
+    wanted: Wanted,
 ) -> Result<Answer, Stop>
-    ensures answer { Answers result (λ answer. IsFactsAnswer (asked question.now) names.old networks.now wanted.now (draft_view draft) answer) }
+    ensures answer { Answers result (λ answer. IsFactsAnswer (asked question.now) names networks.items wanted (draft_view draft) answer) }
     ensures settles { Answers result (λ answer. IsSettled answer.status) }
 {
-    match draft.facts(names, wanted) {
-        Ok(report) => answer_question(alloc, question, &report, networks),
+    let mut names = names;
+    let read = draft.facts(&mut names, &wanted);
+    drop(names);
+    drop(wanted);
+    match read {
+        Ok(report) => answer_question(alloc, question, without_keys(alloc, report), networks),
         Err(fault) => Err(report_refusal(alloc, question.report, &fault)),
+    }
+}
+
+// The facts of a report, whose keys are let go.
+fn without_keys(alloc: Global, report: Report) -> Report
+    ensures { result.facts ≡ report.facts }
+{
+    Report {
+        facts: report.facts,
+        keys: Items::of(Vec::new(alloc)),
     }
 }
 
@@ -63,23 +89,24 @@ pub fn answer_facts(
 fn answer_question(
     alloc: Global,
     question: &Question<'_>,
-    report: &Report,
-    networks: &[Network],
+    report: Report,
+    networks: Vec<Network>,
 ) -> Result<Answer, Stop>
-    ensures answer { Answers result (λ answer. IsCounted (asked question.now) networks.now report.now.facts answer) }
+    ensures answer { Answers result (λ answer. IsCounted (asked question.now) networks.items report.facts answer) }
     ensures settles { Answers result (λ answer. IsSettled answer.status) }
 {
     if are_too_many(report.facts.as_slice().len(), networks.len()) {
         return Err(coded_refusal(alloc, question.report, "xc:tooMany"));
     }
     match question.goal {
-        Goal::Findings => Ok(answer_findings(alloc, question.mode, report, networks)?),
-        Goal::Joint => Ok(answer_joint(alloc, question.mode, report, networks)?),
+        Goal::Findings => Ok(answer_findings(alloc, question.mode, &report, networks.as_slice())?),
+        Goal::Joint => Ok(answer_joint(alloc, question.mode, &report, networks)?),
         Goal::Judgement(word, bytes) => {
-            answer_certificate(alloc, question.mode, word, bytes, report, networks)
+            answer_certificate(alloc, question.mode, word, bytes, &report, networks)
         }
         Goal::Summary(count, root) => {
-            Ok(answer_summary(alloc, question.mode, count, root, report, networks)?)
+            let networks = networks.as_slice();
+            Ok(answer_summary(alloc, question.mode, count, root, &report, networks)?)
         }
     }
 }

@@ -5,7 +5,7 @@ mod answer;
 mod certified;
 mod check;
 mod documents;
-mod found;
+mod findings;
 mod joint;
 mod judged;
 pub mod laws;

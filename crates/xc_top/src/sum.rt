@@ -13,7 +13,7 @@ ghost use Rattle.xc_top.specs.Sums.{AreNodesOf, is_number_of, AreSumNumbers, sum
 ghost use Rattle.xc_top.specs.Steps.Views.{asked};
 ghost use Rattle.xc_top.specs.Words.{texts, name_of};
 
-use crate::judged::{Goal, Question, answer_facts};
+use crate::judged::{Goal, Question, answer_facts, draft_of};
 use crate::refusals::{name_refusal, report_refusal};
 use crate::status::{Answer, Stop};
 use crate::words::{Sum, is_negative, name_of};
@@ -22,14 +22,14 @@ use xc_calc::{Arc, Network};
 use xc_decimal::{Decimal, read_decimal};
 use xc_lists::{Items, Memory, Text};
 use xc_names::{NameId, NameSet, Names, Prefixes, Wanted, expand};
-use xc_report::{Draft, open_report};
+use xc_report::Draft;
 
-/// What is answered of the report's bytes.
-pub fn answer_report(alloc: Global, sum: &Sum<'_>, report: &[u8]) -> Result<Answer, Stop>
-    ensures answer { Answers result (λ answer. IsReportAnswer (named_sum sum.now) (opened report.now) answer) }
+/// What is answered of the report's bytes, which are let go once the report is read.
+pub fn answer_report(alloc: Global, sum: &Sum<'_>, report: Vec<u8>) -> Result<Answer, Stop>
+    ensures answer { Answers result (λ answer. IsReportAnswer (named_sum sum.now) (opened report.items) answer) }
     ensures settles { Answers result (λ answer. IsSettled answer.status) }
 {
-    match open_report(alloc, report) {
+    match draft_of(alloc, report) {
         Ok(draft) => answer_draft(alloc, sum, draft),
         Err(fault) => Err(report_refusal(alloc, sum.report, &fault)),
     }
@@ -42,16 +42,9 @@ fn answer_draft(alloc: Global, sum: &Sum<'_>, draft: Draft) -> Result<Answer, St
 {
     let mut names = Names::new(alloc);
     let named = numbers_of(alloc, sum, draft.prefixes(), &mut names)?;
-    let network = network_of(alloc, sum, &named)?;
+    let networks = networks_of(alloc, sum, &named)?;
     let wanted = wanted_of(alloc, &named)?;
-    answer_facts(
-        alloc,
-        &question_of(sum),
-        draft,
-        &mut names,
-        &[network],
-        &wanted,
-    )
+    answer_facts(alloc, &question_of(sum), draft, names, networks, wanted)
 }
 
 // The numbers of the names of the words.
@@ -138,7 +131,15 @@ fn number_of(
     }
 }
 
-// The one network.
+// The networks: there is one.
+fn networks_of(alloc: Global, sum: &Sum<'_>, numbers: &Numbers) -> Result<Vec<Network>, Memory>
+    ensures { IfOk result (λ networks. networks.items ≡ sum_network numbers.now.total (zip (texts sum.now.terms.now) numbers.now.terms.items) ∷ []) }
+{
+    let mut networks = Vec::new(alloc);
+    networks.push(network_of(alloc, sum, numbers)?)?;
+    Ok(networks)
+}
+
 fn network_of(alloc: Global, sum: &Sum<'_>, numbers: &Numbers) -> Result<Network, Memory>
     ensures { IfOk result (λ network. network ≡ sum_network numbers.now.total (zip (texts sum.now.terms.now) numbers.now.terms.items)) }
 {

@@ -1,5 +1,5 @@
 // What the documents of a taxonomy say together.
-ghost use Rattle.std.specs.Prelude.{◌≡◌, [], List, None, Some, option_map, option_and_then, option_to_list, IfOk, OnOk};
+ghost use Rattle.std.specs.Prelude.{◌≡◌, ◌++◌, [], List, None, Some, option_map, option_and_then, option_to_list, IfOk, OnOk};
 ghost use Rattle.xc_calc.specs.Linked.{with_arcs};
 ghost use Rattle.xc_concepts.specs.Held.{AreHeld};
 ghost use Rattle.xc_concepts.specs.declared.schema.Schema.{Schema};
@@ -29,25 +29,48 @@ pub struct Taxonomy {
     pub wanted: Wanted,
 }
 
-/// The schemas among these documents, added in their order.
+/// What the schemas of a taxonomy declare, and its linkbases, which are read over that.
+#[derive(Drop)]
+pub struct Declarations {
+    pub concepts: Concepts,
+    pub linkbases: Vec<Document>,
+}
+
+/// The schemas among these documents, added in their order, each let go once it is; and the linkbases that are left.
 pub fn add_schemas(
     alloc: Global,
     names: &mut Names,
-    documents: &[Document],
-) -> Result<Concepts, Stop>
+    documents: Vec<Document>,
+) -> Result<Declarations, Stop>
     requires { names.old ≡ [] }
-    ensures schemas { IfOk result (λ concepts. AreSchemasOf (schemas_in documents.now) concepts) }
-    ensures held { IfOk result (λ concepts. AreHeld concepts names.new) }
-    ensures sound { IfOk result (λ concepts. first_schema_broken (schemas_in documents.now) concepts ≡ None) }
-    ensures refused { IfStopped result (λ answer. (schemas : List Schema) × AreSchemasOf (schemas_in documents.now) schemas
-        × (first_schema_broken (schemas_in documents.now) schemas ≡ Some answer)) }
+    ensures schemas { IfOk result (λ said. AreSchemasOf (schemas_in documents.items) said.concepts) }
+    ensures held { IfOk result (λ said. AreHeld said.concepts names.new) }
+    ensures sound { IfOk result (λ said. first_schema_broken (schemas_in documents.items) said.concepts ≡ None) }
+    ensures linkbases { IfOk result (λ said. linkbases_in said.linkbases.items ≡ linkbases_in documents.items) }
+    ensures refused { IfStopped result (λ answer. (schemas : List Schema) × AreSchemasOf (schemas_in documents.items) schemas
+        × (first_schema_broken (schemas_in documents.items) schemas ≡ Some answer)) }
     ensures status { IfStopped result (λ answer. IsSettled answer.status) }
 {
     let mut concepts = Concepts::new(alloc);
+    let mut linkbases = Vec::new(alloc);
     for document in documents {
-        add_schema(alloc, names, document, &mut concepts)?;
+        add_schema(alloc, names, &document, &mut concepts)?;
+        keep_linkbase(&mut linkbases, document)?;
     }
-    Ok(concepts)
+    Ok(Declarations {
+        concepts,
+        linkbases,
+    })
+}
+
+// Puts a document last, where it is a linkbase; any other is let go.
+fn keep_linkbase(linkbases: &mut Vec<Document>, document: Document) -> Result<(), Memory>
+    ensures { OnOk result (linkbases_in linkbases.new.items ≡ linkbases_in linkbases.old.items ++ option_to_list (linkbase_in document)) }
+{
+    if linkbase_in(&document).is_some() {
+        linkbases.push(document)?;
+    }
+    Ok(())
 }
 
 // Adds the schema of a document, where it is one.
@@ -84,21 +107,21 @@ fn schema_in(document: &Document) -> Option<&Tree>
     }
 }
 
-/// The arcs of the linkbases among these documents, added in their order.
+/// The arcs of the linkbases among these documents, added in their order, each document let go once they are.
 pub fn add_linkbases(
     alloc: Global,
     kind: ArcKind,
     concepts: &Concepts,
-    documents: &[Document],
+    documents: Vec<Document>,
 ) -> Result<Arcs, Stop>
-    ensures arcs { IfOk result (λ arcs. arcs.arcs ≡ arcs_of kind concepts.now (linkbases_in documents.now)) }
-    ensures sound { OnOk result (first_link_broken kind concepts.now (linkbases_in documents.now) ≡ None) }
-    ensures refused { IfStopped result (λ answer. first_link_broken kind concepts.now (linkbases_in documents.now) ≡ Some answer) }
+    ensures arcs { IfOk result (λ arcs. arcs.arcs ≡ arcs_of kind concepts.now (linkbases_in documents.items)) }
+    ensures sound { OnOk result (first_link_broken kind concepts.now (linkbases_in documents.items) ≡ None) }
+    ensures refused { IfStopped result (λ answer. first_link_broken kind concepts.now (linkbases_in documents.items) ≡ Some answer) }
     ensures status { IfStopped result (λ answer. IsSettled answer.status) }
 {
     let mut arcs = Arcs::new(alloc, kind);
     for document in documents {
-        add_linkbase(alloc, concepts, document, &mut arcs)?;
+        add_linkbase(alloc, concepts, &document, &mut arcs)?;
     }
     Ok(arcs)
 }
@@ -145,17 +168,19 @@ fn with_kinds(concepts: Concepts) -> Result<Concepts, Memory>
 
 /// What these documents say together, or the first that is refused: each has to be a schema or a linkbase; then the
 /// schemas are added in their order, and then the linkbases.
-pub fn taxonomy_of(alloc: Global, kind: ArcKind, documents: &[Document]) -> Result<Taxonomy, Stop>
-    ensures taxonomy { IfOk result (λ taxonomy. IsTaxonomyOf kind documents.now taxonomy.names taxonomy.networks.items taxonomy.wanted) }
-    ensures refused { IfStopped result (λ answer. IsTaxonomyRefusal kind documents.now answer) }
+pub fn taxonomy_of(alloc: Global, kind: ArcKind, documents: Vec<Document>) -> Result<Taxonomy, Stop>
+    ensures taxonomy { IfOk result (λ taxonomy. IsTaxonomyOf kind documents.items taxonomy.names taxonomy.networks.items taxonomy.wanted) }
+    ensures refused { IfStopped result (λ answer. IsTaxonomyRefusal kind documents.items answer) }
     ensures status { IfStopped result (λ answer. IsSettled answer.status) }
 {
-    require_taxonomies(alloc, documents)?;
+    require_taxonomies(alloc, documents.as_slice())?;
     let mut names = Names::new(alloc);
-    let concepts = with_kinds(add_schemas(alloc, &mut names, documents)?)?;
-    let arcs = add_linkbases(alloc, kind, &concepts, documents)?;
-    let networks = arcs.effective()?;
+    let declared = add_schemas(alloc, &mut names, documents)?;
+    let concepts = with_kinds(declared.concepts)?;
+    let arcs = add_linkbases(alloc, kind, &concepts, declared.linkbases)?;
     let wanted = arcs.wanted(&concepts)?;
+    drop(concepts);
+    let networks = arcs.effective()?;
     Ok(Taxonomy {
         names,
         networks,

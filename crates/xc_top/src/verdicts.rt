@@ -5,7 +5,9 @@ ghost use Rattle.xc_bind.specs.Placed.{IsPlaced};
 ghost use Rattle.xc_interval.specs.declared.mode.Mode.{Mode};
 ghost use Rattle.xc_points.specs.Gathered.{ArePoints};
 ghost use Rattle.xc_report.specs.declared.reports.Fact.{Fact};
-ghost use Rattle.xc_top.specs.Findings.{AreVerdicts, status_of, has_finding, is_inconsistent, is_empty_point, is_too_wide};
+ghost use Rattle.xc_top.specs.Findings.{AreVerdicts, has_finding, is_inconsistent, is_empty_point, is_too_wide};
+ghost use Rattle.xc_top.specs.Steps.Joined.{status_by};
+ghost use Rattle.xc_top.specs.Steps.Stops.{IsSettled};
 
 use crate::Status;
 use std::alloc::Global;
@@ -33,18 +35,18 @@ pub fn verdicts_of(
     Ok(verdicts)
 }
 
-/// How the run ends: with findings where a total disagrees or no value satisfies a data point; else too wide where a
-/// binding is; else sound.
-pub fn status_of(points: &[Point], verdicts: &[Verdict]) -> Status
-    ensures { result ≡ status_of points.now verdicts.now }
+/// How the run ends: with findings where something disagrees; else too wide where something is; else sound.
+pub fn status_by(disagrees: bool, too_wide: bool) -> Status
+    ensures status { result ≡ status_by disagrees too_wide }
+    ensures settles { IsSettled result }
 {
-    if has_finding(points, verdicts) {
-        Status::Findings
-    } else if any_too_wide(verdicts) {
-        Status::TooWide
-    } else {
-        Status::Sound
+    if disagrees {
+        return Status::Findings;
     }
+    if too_wide {
+        return Status::TooWide;
+    }
+    Status::Sound
 }
 
 /// Whether a total disagrees, or no value satisfies a data point.

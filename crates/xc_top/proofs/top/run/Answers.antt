@@ -4,6 +4,7 @@ use Rattle.xc_lines.specs.Lines.{usage_line}
 use Rattle.xc_top.specs.Answers.{make_answer}
 use Rattle.xc_top.specs.Steps.Named.{named}
 use Rattle.xc_top.specs.Run.{AppendsPart, IsJudged}
+use Rattle.xc_top.specs.Words.{texts}
 use Rattle.xc_top.specs.declared.status.Status.TheVariants as status
 use Rattle.xc_top.proofs.Accepted.{run_proven, none_proven, sound_written, sound_unread}
 use Rattle.xc_top.proofs.Leaving.{over_failed, over_told}
@@ -14,7 +15,7 @@ use Rattle.xc_top.proofs.top.run.Goals as goal
 
 -- the number of nodes in accepted words is one that a sample may have
 pub answer_command-requires : goal.answer_command-requires
-answer_command-requires g c = sized_words _ (named c.in-Some.command) c.in-Some.ensures
+answer_command-requires g c = sized_words (texts c.args.words.now) (named c.in-Some.command) c.in-Some.ensures
 
 pub returns-in-Ok-clause-answer : goal.returns-in-Ok-clause-answer
 returns-in-Ok-clause-answer g c =

@@ -1,7 +1,7 @@
 use Rattle.std.proofs.Common.{◌∙◌, ap}
 use Rattle.xc_top.proofs.Sampled.{sample_answered}
 use Rattle.xc_top.proofs.Told.{if_answers}
-use Rattle.xc_top.proofs.sample.answer_sample.Goals as goal
+use Rattle.xc_top.proofs.sample.answer_size.Goals as goal
 use Rattle.xc_top.specs.Samples.{sample_check}
 use Rattle.xc_top.specs.Steps.Chain.{SummaryOf, over_asked}
 use Rattle.xc_top.specs.Steps.Named.{named_check}
@@ -12,9 +12,9 @@ returns-clause-answer c =
     let texts = c.in_ok-sample.ensures.texts in
     let sought = SummaryOf n c.in_ok-root.root in
     if_answers c.answer_documents.result (λ answer is.
-    sample_answered n c.sample_words.result.kind (over_asked (named_check c.sample_words.result) sought) c.as_slice.result.now c.in_ok-documents.documents.items answer
+    sample_answered n c.sample_words.result.kind (over_asked (named_check c.sample_words.result) sought) c.in_ok-sample.sample.report.items c.in_ok-documents.documents.items answer
     c.sample_words.ensures.kind
     (c.sample_words.ensures.asked sought ∙ ap (λ root. over_asked sample_check (SummaryOf n root)) c.in_ok-root.ensures)
-    (c.as_slice.ensures ∙ texts.report)
+    texts.report
     (c.in_ok-documents.ensures n texts.schema texts.linkbase) is)
     c.answer_documents.ensures.answer

@@ -3,48 +3,49 @@ ghost use Rattle.std.specs.Prelude.{◌≡◌, ◌*◌, ◌≤◌, All, IfOk, fa
 ghost use Rattle.xc_bind.specs.Bindings.{bindings_of};
 ghost use Rattle.xc_bind.specs.Placed.{IsPlaced};
 ghost use Rattle.xc_points.specs.Gathered.{ArePoints};
-ghost use Rattle.xc_top.specs.Findings.{AreVerdicts, IsFindings, findings_of};
+ghost use Rattle.xc_top.specs.Findings.{IsFindings};
 ghost use Rattle.xc_top.specs.Contents.{are_too_many};
+ghost use Rattle.xc_top.specs.Steps.Joined.{HasVerdicts};
 ghost use Rattle.xc_top.specs.Steps.Stops.{IsSettled};
 
 use crate::status::Answer;
-use crate::verdicts::{status_of, verdicts_of};
+use crate::verdicts::{any_too_wide, has_finding, status_by, verdicts_of};
 use std::alloc::Global;
-use xc_bind::{Binding, Verdict, bindings};
+use xc_bind::{Binding, bindings};
 use xc_calc::Network;
 use xc_interval::Mode;
-use xc_lines::findings;
 use xc_lines::laws::points_carry_facts;
 use xc_lists::{Items, Memory};
 use xc_points::{Points, points};
 use xc_report::Report;
 
-/// What is found of a report.
+/// What is found of a report. The verdicts are let go once their lines are there.
 #[derive(Drop)]
-pub struct Found {
+pub struct Findings {
     pub points: Points,
     pub bindings: Vec<Binding>,
-    /// One for each binding, in their order.
-    pub verdicts: Vec<Verdict>,
     /// The lines of all these.
     pub lines: Vec<u8>,
+    /// A total disagrees, or no value satisfies a data point.
+    pub disagrees: bool,
+    /// A binding is too wide.
+    pub too_wide: bool,
 }
 
 /// What is found of a report's facts over networks.
-pub fn found_of(
+pub fn findings_of(
     alloc: Global,
     mode: Mode,
     report: &Report,
     networks: &[Network],
-) -> Result<Found, Memory>
+) -> Result<Findings, Memory>
     requires { are_too_many (length report.now.facts) (length networks.now) ≡ false }
-    ensures points { IfOk result (λ found. ArePoints mode report.now.facts found.points) }
-    ensures bindings { IfOk result (λ found. found.bindings.items ≡ bindings_of networks.now found.points.points) }
-    ensures placed { IfOk result (λ found. All (IsPlaced found.points.points) found.bindings.items) }
-    ensures few_points { IfOk result (λ found. length found.points.points ≤ length report.now.facts) }
-    ensures few_bindings { IfOk result (λ found. length found.bindings.items ≤ length networks.now * length found.points.points) }
-    ensures verdicts { IfOk result (λ found. AreVerdicts mode report.now.facts found.points.points (bindings_of networks.now found.points.points) found.verdicts.items) }
-    ensures lines { IfOk result (λ found. found.lines.items ≡ findings_of mode networks.now report.now.facts found.points.points found.verdicts.items) }
+    ensures points { IfOk result (λ findings. ArePoints mode report.now.facts findings.points) }
+    ensures bindings { IfOk result (λ findings. findings.bindings.items ≡ bindings_of networks.now findings.points.points) }
+    ensures placed { IfOk result (λ findings. All (IsPlaced findings.points.points) findings.bindings.items) }
+    ensures few_points { IfOk result (λ findings. length findings.points.points ≤ length report.now.facts) }
+    ensures few_bindings { IfOk result (λ findings. length findings.bindings.items ≤ length networks.now * length findings.points.points) }
+    ensures verdicts { IfOk result (HasVerdicts mode networks.now report.now.facts) }
 {
     // The numbers in the points are those of the report's facts.
     points_carry_facts();
@@ -52,12 +53,15 @@ pub fn found_of(
     let list = points.as_slice();
     let bindings = bindings(alloc, networks, &points)?;
     let verdicts = verdicts_of(alloc, &bindings, &points)?;
-    let lines = findings(alloc, report, &points, networks, &bindings, &verdicts, mode)?;
-    Ok(Found {
+    let lines = xc_lines::findings(alloc, report, &points, networks, &bindings, &verdicts, mode)?;
+    let disagrees = has_finding(list, &verdicts);
+    let too_wide = any_too_wide(&verdicts);
+    Ok(Findings {
         points,
         bindings,
-        verdicts,
         lines,
+        disagrees,
+        too_wide,
     })
 }
 
@@ -72,9 +76,9 @@ pub fn answer_findings(
     ensures answer { IfOk result (IsFindings mode networks.now report.now.facts) }
     ensures settles { IfOk result (λ answer. IsSettled answer.status) }
 {
-    let found = found_of(alloc, mode, report, networks)?;
+    let findings = findings_of(alloc, mode, report, networks)?;
     Ok(Answer {
-        status: status_of(found.points.as_slice(), &found.verdicts),
-        text: Items::of(found.lines),
+        status: status_by(findings.disagrees, findings.too_wide),
+        text: Items::of(findings.lines),
     })
 }

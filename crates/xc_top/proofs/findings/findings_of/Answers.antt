@@ -3,7 +3,7 @@ use Rattle.std.proofs.lemmas.List.Elements.{All-weaker}
 use Rattle.xc_bind.specs.Placed.{IsPlaced}
 use Rattle.xc_lines.specs.Findings.{NameTotals, NameNetworks}
 use Rattle.xc_top.proofs.Few.{few_pairs}
-use Rattle.xc_top.proofs.found.found_of.Goals as goal
+use Rattle.xc_top.proofs.findings.findings_of.Goals as goal
 
 pub bindings-requires : goal.bindings-requires
 bindings-requires c =

@@ -24,7 +24,7 @@ use Rattle.xc_model.specs.Ratio.{Ratio, fraction_of}
 use Rattle.xc_points.specs.Gathered.{AreEnds, AreEndsOf}
 use Rattle.xc_points.specs.declared.types.Point.{Point}
 use Rattle.xc_report.specs.declared.reports.Fact.{Fact}
-use Rattle.xc_system.specs.Solutions.{Assignment, Solves, Admits as Lets, Holds, IsZero, weighed}
+use Rattle.xc_system.specs.Solutions.{Assignment, Solves, Admits as Lets, Holds, IsZero, sum_over_entries}
 use Rattle.xc_system.specs.declared.types.Bound.{Bound}
 use Rattle.xc_system.specs.declared.types.Entry.{Entry}
 use Rattle.xc_system.specs.declared.types.Equation.{Equation}
@@ -100,7 +100,7 @@ neg_sum a b = omega (arith, ints)
 module _ (points : List Point) (z : Assignment) (n : ℕ → ℤ) (q : ℕ) (positive : 0 < q) (values : AreValuesOver points z n q) where
   -- the terms' part of an equation
   terms_number : (m : ℕ) (terms : List Term) (es : List Entry) → most_places terms ≤ m → AllByRecursion (IsInside points) terms → AllZip IsTermEntry terms es
-      → IsNumberOver (weighed es z) (neg_ℤ (weighted_sum m terms (map (λ term. n term.point) terms))) (10 ^ m * q)
+      → IsNumberOver (sum_over_entries es z) (neg_ℤ (weighted_sum m terms (map (λ term. n term.point) terms))) (10 ^ m * q)
   terms_number m [] [] h inside a = zero_over (whole (pos 0)) (10 ^ m * q) (mul-pos (ten_positive m) positive) (same-refl (whole (pos 0)))
   terms_number m [] (e ∷ es) h inside a = absurd a
   terms_number m (t ∷ ts) [] h inside a = absurd a
@@ -111,8 +111,8 @@ module _ (points : List Point) (z : Assignment) (n : ℕ → ℤ) (q : ℕ) (pos
       let value : IsNumberOver (z e.point) (n t.point) q = subst (λ (p : ℕ). IsNumberOver (z p) (n t.point) q) (sym a.0.at) (values t.point inside.0) in
       let own : IsNumberOver (product_of (fraction_of e.weight) (z e.point)) (neg_ℤ (w *ℤ n t.point)) (10 ^ m * q) =
       subst (λ (k : ℤ). IsNumberOver (product_of (fraction_of e.weight) (z e.point)) k (10 ^ m * q)) (neg-mul w (n t.point)) (product_number (fraction_of e.weight) (z e.point) (neg_ℤ w) (n t.point) (10 ^ m) q weight value) in
-      subst (λ (k : ℤ). IsNumberOver (weighed (e ∷ es) z) k (10 ^ m * q)) (neg_sum (w *ℤ n t.point) rest)
-      (sum_number (product_of (fraction_of e.weight) (z e.point)) (weighed es z) (neg_ℤ (w *ℤ n t.point)) (neg_ℤ rest) (10 ^ m * q) own (terms_number m ts es (omega arith) inside.1 a.1))
+      subst (λ (k : ℤ). IsNumberOver (sum_over_entries (e ∷ es) z) k (10 ^ m * q)) (neg_sum (w *ℤ n t.point) rest)
+      (sum_number (product_of (fraction_of e.weight) (z e.point)) (sum_over_entries es z) (neg_ℤ (w *ℤ n t.point)) (neg_ℤ rest) (10 ^ m * q) own (terms_number m ts es (omega arith) inside.1 a.1))
 
   -- a number is 0 exactly where its numerator is
   zero_number : (x : Fraction) (k : ℤ) (d : ℕ) → IsNumberOver x k d → IsZero x → k ≡ pos 0
@@ -125,13 +125,13 @@ module _ (points : List Point) (z : Assignment) (n : ℕ → ℤ) (q : ℕ) (pos
 
   -- an equation of a binding
   equation_number : (b : Binding) (es : List Entry) → IsPlaced points b → AreEntries b es
-      → IsNumberOver (weighed es z) (pos (10 ^ most_places b.terms) *ℤ n b.total +ℤ neg_ℤ (weighted_sum (most_places b.terms) b.terms (map (λ term. n term.point) b.terms))) (10 ^ most_places b.terms * q)
+      → IsNumberOver (sum_over_entries es z) (pos (10 ^ most_places b.terms) *ℤ n b.total +ℤ neg_ℤ (weighted_sum (most_places b.terms) b.terms (map (λ term. n term.point) b.terms))) (10 ^ most_places b.terms * q)
   equation_number b [] placed a = absurd a
   equation_number b (e ∷ es) placed a =
       let m = most_places b.terms in
       let weight : IsNumberOver (fraction_of e.weight) (pos (10 ^ m)) (10 ^ m) = number_of_same (fraction_of e.weight) (whole (pos 1)) (pos (10 ^ m)) (10 ^ m) a.0.weighs (one_number m) in
       let value : IsNumberOver (z e.point) (n b.total) q = subst (λ (p : ℕ). IsNumberOver (z p) (n b.total) q) (sym a.0.at) (values b.total placed.total) in
-      sum_number (product_of (fraction_of e.weight) (z e.point)) (weighed es z) (pos (10 ^ m) *ℤ n b.total) (neg_ℤ (weighted_sum m b.terms (map (λ term. n term.point) b.terms))) (10 ^ m * q)
+      sum_number (product_of (fraction_of e.weight) (z e.point)) (sum_over_entries es z) (pos (10 ^ m) *ℤ n b.total) (neg_ℤ (weighted_sum m b.terms (map (λ term. n term.point) b.terms))) (10 ^ m * q)
       (product_number (fraction_of e.weight) (z e.point) (pos (10 ^ m)) (n b.total) (10 ^ m) q weight value)
       (terms_number m b.terms es (omega arith) (recursion_from_All (IsInside points) b.terms placed.terms) a.1)
 
@@ -142,10 +142,10 @@ module _ (points : List Point) (z : Assignment) (n : ℕ → ℤ) (q : ℕ) (pos
   none_less a b e = omega (arith, ints, e)
 
   holds_adds : (b : Binding) (equation : Equation) → IsPlaced points b → IsEquationOf b equation → Holds equation z → AddsUp b (n b.total) (map (λ term. n term.point) b.terms)
-  holds_adds b equation placed a h = less_none (pos (10 ^ most_places b.terms) *ℤ n b.total) (weighted_sum (most_places b.terms) b.terms (map (λ term. n term.point) b.terms)) (zero_number (weighed equation.entries z) _ _ (equation_number b equation.entries placed a) h)
+  holds_adds b equation placed a h = less_none (pos (10 ^ most_places b.terms) *ℤ n b.total) (weighted_sum (most_places b.terms) b.terms (map (λ term. n term.point) b.terms)) (zero_number (sum_over_entries equation.entries z) _ _ (equation_number b equation.entries placed a) h)
 
   adds_holds : (b : Binding) (equation : Equation) → IsPlaced points b → IsEquationOf b equation → AddsUp b (n b.total) (map (λ term. n term.point) b.terms) → Holds equation z
-  adds_holds b equation placed a h = number_zero (weighed equation.entries z) _ _ (equation_number b equation.entries placed a) (none_less (pos (10 ^ most_places b.terms) *ℤ n b.total) (weighted_sum (most_places b.terms) b.terms (map (λ term. n term.point) b.terms)) h)
+  adds_holds b equation placed a h = number_zero (sum_over_entries equation.entries z) _ _ (equation_number b equation.entries placed a) (none_less (pos (10 ^ most_places b.terms) *ℤ n b.total) (weighted_sum (most_places b.terms) b.terms (map (λ term. n term.point) b.terms)) h)
 
 -- what goes together stands at the same places
 zipped_left : {A B : Type 0} (R : A → B → Type 0) (xs : List A) (ys : List B) (i : ℕ) (x : A) → AllZip R xs ys → slice_get xs i ≡ Some x → (y : B) × (slice_get ys i ≡ Some y) × R x y

@@ -20,10 +20,13 @@ pub record IsTerm (points : List Point) (total : Point) (arc : Arc) (term : Term
   pub key : point.key ≡ total.key
   pub weight : term.weight ≡ arc.weight
 
--- the terms are exactly those of all these arcs, each arc's where it has one, in the order of the arcs
+-- the terms are those of these arcs, in the order of the arcs: an arc has one where its contributor is reported beside the total, and else none
 pub record AreTerms (points : List Point) (total : Point) (arcs : List Arc) (terms : List Term) : Type 0 where
+  -- an arc's term, if it has one
   pub given : Arc → Option Term
+  -- it is exactly the one of this arc beside the total
   pub exactly : (arc : Arc) (term : Term) → (given arc ≡ Some term) ↔ IsTerm points total arc term
+  -- and the terms are these of one arc after another
   pub terms_are : terms ≡ filter_map given arcs
 
 -- the point with this number is judged in the network with this number: an arc of the network leads from its concept to one that has a point with the same key

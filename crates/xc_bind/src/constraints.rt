@@ -41,13 +41,13 @@ fn owners(alloc: Global, points: &Points) -> Result<Vec<u32>, Memory>
     }
     let all = owners.as_mut_slice();
     for (number, point) in points.as_slice().iter().enumerate() {
-        own(all, point.facts.as_slice(), number as u32);
+        set_owner(all, point.facts.as_slice(), number as u32);
     }
     Ok(owners)
 }
 
 // Gives these facts this number.
-fn own(owners: &mut [u32], facts: &[u32], number: u32)
+fn set_owner(owners: &mut [u32], facts: &[u32], number: u32)
     requires { All (λ f. f < length owners.old) facts.now }
     ensures own { (f : ℕ) → IsTrue (list_any (λ g. g == f) facts.now) → slice_index owners.new f ≡ number }
     ensures others { (f : ℕ) → list_any (λ g. g == f) facts.now ≡ false

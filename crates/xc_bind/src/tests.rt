@@ -89,7 +89,7 @@ fn report_of(alloc: Global, text: &str) -> Result<Report, Memory> {
 }
 
 // Each binding as the numbers of its network and its total, and its terms as digits of the weight and number.
-fn spelled(alloc: Global, list: &[Binding]) -> Result<String, Memory> {
+fn spelling_of(alloc: Global, list: &[Binding]) -> Result<String, Memory> {
     let mut text = String::new(alloc);
     for binding in list {
         let network = binding.network;
@@ -106,7 +106,7 @@ fn spelled(alloc: Global, list: &[Binding]) -> Result<String, Memory> {
 }
 
 // The points of the bounds of a system, and each equation as its entries, each of a weight and a point.
-fn spelled_system(alloc: Global, system: &System) -> Result<String, Memory> {
+fn spelling_of_system(alloc: Global, system: &System) -> Result<String, Memory> {
     let mut text = String::from_str(alloc, "|")?;
     for bound in system.bounds() {
         let point = bound.point;
@@ -124,7 +124,7 @@ fn spelled_system(alloc: Global, system: &System) -> Result<String, Memory> {
 }
 
 // The bindings of these networks and facts, and their system. Too many of them count as want of memory.
-fn answered(alloc: Global, networks: &str, facts: &str) -> Result<String, Memory> {
+fn answer_for(alloc: Global, networks: &str, facts: &str) -> Result<String, Memory> {
     let networks = networks_of(alloc, networks)?;
     let report = report_of(alloc, facts)?;
     if report.facts.as_slice().len() > 100 {
@@ -142,8 +142,8 @@ fn answered(alloc: Global, networks: &str, facts: &str) -> Result<String, Memory
         return Err(Memory);
     }
     let system = system(alloc, &points, list.as_slice())?;
-    let mut text = spelled(alloc, list.as_slice())?;
-    text.push_str(spelled_system(alloc, &system)?.as_str())?;
+    let mut text = spelling_of(alloc, list.as_slice())?;
+    text.push_str(spelling_of_system(alloc, &system)?.as_str())?;
     Ok(text)
 }
 
@@ -202,7 +202,7 @@ fn worked_reports(rt: HostRuntime) -> Result<(), Fail> {
         // two facts of one point
         ("r1:TA", "A0 A0 T0 T0", "0.1 1*0;| 0 0 1 1; 1*1 -1*0"),
     ] {
-        assert_eq!(rt; answered(alloc, networks, facts)?.as_str(), answer);
+        assert_eq!(rt; answer_for(alloc, networks, facts)?.as_str(), answer);
     }
     Ok(())
 }

@@ -7,7 +7,7 @@ use Rattle.xc_cert.specs.Certificates.{AreNumbers, IsPassed, ArePassed, IsCertif
 use Rattle.xc_lists.specs.TextLines.{IsLine, AreLines, text_of}
 use Rattle.xc_cert.specs.Faults.{Begin, IsFaultAt}
 use Rattle.xc_cert.specs.Laws.{OneCertificate, TextOrFault, OneFault, WrittenIsText, PassedTextsJoin}
-use Rattle.xc_cert.specs.Steps.Reading.{Gathered, nothing, Leads, ended}
+use Rattle.xc_cert.specs.Steps.Reading.{Progress, no_progress, Leads, certificate_at_end}
 use Rattle.xc_lists.proofs.Cutting.{text_of-append, Continues, lines_meet, lines_within, lines_whole}
 use Rattle.xc_cert.proofs.Lacking.{spelling_lacks}
 use Rattle.xc_lists.proofs.Lacking.{all_append, all_back, lacks_append, lacks_by, decimal_lacks}
@@ -64,26 +64,26 @@ all_lines bytes c t = t.passed ++ certificate_lines c
 pub text_are_lines : (bytes : List ℕ) (c : Certificate) (t : IsTextOf bytes c) → AreLines (all_lines bytes c t)
 text_are_lines bytes c t = all_append IsLine t.passed (certificate_lines c) (passed_are_lines t.passed t.are_passed) (certificate_are_lines c t.sound)
 
-pub text_leads : (bytes : List ℕ) (c : Certificate) (t : IsTextOf bytes c) → Leads nothing (all_lines bytes c t) (done c)
+pub text_leads : (bytes : List ℕ) (c : Certificate) (t : IsTextOf bytes c) → Leads no_progress (all_lines bytes c t) (done c)
 text_leads bytes c t = complete t.passed c t.are_passed t.sound
 
 some_same : {X : Type 0} (x y : X) → Some x ≡ Some y → x ≡ y
 some_same x y e = cc
 
 same_done : (c d : Certificate) → done c ≡ done d → c ≡ d
-same_done c d e = some_same c d (sym (ended_done c) ∙ ap ended e ∙ ended_done d)
+same_done c d e = some_same c d (sym (ended_done c) ∙ ap certificate_at_end e ∙ ended_done d)
 
 module _ (one : HasOneSpelling) where
   pub one_certificate : OneCertificate
   one_certificate bytes c d s t =
       let same = lines_whole (all_lines bytes c s) (all_lines bytes d t) [] (text_are_lines bytes c s) (text_are_lines bytes d t) tt (append-nil (text_of (all_lines bytes c s)) ∙ sym s.is ∙ t.is) in
-      same_done c d (leads_same one (all_lines bytes c s) nothing (done c) (done d) (text_leads bytes c s) (subst (λ zs. Leads nothing zs (done d)) same.0 (text_leads bytes d t)))
+      same_done c d (leads_same one (all_lines bytes c s) no_progress (done c) (done d) (text_leads bytes c s) (subst (λ zs. Leads no_progress zs (done d)) same.0 (text_leads bytes d t)))
 
   -- where lines begin a text, they lead to something
-  pub begin_leads : (lines : List (List ℕ)) → AreLines lines → Begin lines → (h : Gathered) × Leads nothing lines h
+  pub begin_leads : (lines : List (List ℕ)) → AreLines lines → Begin lines → (h : Progress) × Leads no_progress lines h
   begin_leads lines a b =
       let m = lines_within lines (all_lines _ b.certificate b.text) b.more a (text_are_lines _ b.certificate b.text) b.text.is in
-      let split = leads_split lines m.more nothing (done b.certificate) (subst (λ zs. Leads nothing zs (done b.certificate)) m.lines (text_leads _ b.certificate b.text)) in
+      let split = leads_split lines m.more no_progress (done b.certificate) (subst (λ zs. Leads no_progress zs (done b.certificate)) m.lines (text_leads _ b.certificate b.text)) in
       (split.middle, split.first)
 
 pub text_or_fault : TextOrFault

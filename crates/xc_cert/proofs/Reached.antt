@@ -8,7 +8,7 @@ use Rattle.xc_lists.specs.TextLines.{IsLine, text_of}
 use Rattle.xc_cert.specs.Faults.{Begin, IsFaultAt}
 use Rattle.xc_cert.specs.Steps.Lines.{IsCut, Says}
 use Rattle.xc_lists.specs.Members.{Lacks}
-use Rattle.xc_cert.specs.Steps.Reading.{Gathered, nothing, after, Leads, IsReached, Takes, at_end, ended, refutation_of}
+use Rattle.xc_cert.specs.Steps.Reading.{Progress, no_progress, after, Leads, IsReached, Takes, at_end, certificate_at_end, refutation_of}
 use Rattle.xc_cert.specs.declared.line.Line.{Line}
 use Rattle.xc_cert.specs.declared.reader.Stage.{Stage}
 use Rattle.xc_cert.specs.declared.reader.Stage.TheVariants.{Before, Opened, Values, Bindings, Lows, Highs, Solved, Refuted}
@@ -25,13 +25,13 @@ use Rattle.xc_system.specs.declared.types.Certificate.TheVariants.{Feasible, Inf
 -- ---- what is read can become a certificate
 
 -- with some lines more, it says one
-record Completes (g : Gathered) (lines : List (List ℕ)) : Type 0 where
+record Completes (g : Progress) (lines : List (List ℕ)) : Type 0 where
   more : List (List ℕ)
   certificate : Certificate
   sound : IsCertificate certificate
   is : lines ++ more ≡ certificate_lines certificate
 
-completes_at : (s : Stage) (g : Gathered) → IsSound g → Completes g (lines_at s g)
+completes_at : (s : Stage) (g : Progress) → IsSound g → Completes g (lines_at s g)
 completes_at Before g sound = record { more = certificate_lines (Feasible []); certificate = Feasible []; sound = omega arith; is = refl }
 completes_at Opened g sound = record { more = codes "feasible" ∷ codes "end" ∷ []; certificate = Feasible []; sound = omega arith; is = refl }
 completes_at Values g sound = record { more = codes "end" ∷ []; certificate = Feasible g.values; sound = sound.few; is = refl }
@@ -42,7 +42,7 @@ completes_at Solved g sound = record { more = []; certificate = Feasible g.value
 completes_at Refuted g sound = record { more = []; certificate = Infeasible (refutation_of g); sound = (sound.kept, sound.numbers); is = append-nil (certificate_lines (Infeasible (refutation_of g))) }
 
 -- what was read to its end is sound, and says its certificate
-record IsDone (g : Gathered) (lines : List (List ℕ)) (c : Certificate) : Type 0 where
+record IsDone (g : Progress) (lines : List (List ℕ)) (c : Certificate) : Type 0 where
   sound : IsCertificate c
   is : lines ≡ certificate_lines c
 
@@ -52,7 +52,7 @@ none_some x e = cc
 some_same : {X : Type 0} (x y : X) → Some x ≡ Some y → x ≡ y
 some_same x y e = cc
 
-done_at : (s : Stage) (g : Gathered) (c : Certificate) → IsSound g → at_end s g ≡ Some c → IsDone g (lines_at s g) c
+done_at : (s : Stage) (g : Progress) (c : Certificate) → IsSound g → at_end s g ≡ Some c → IsDone g (lines_at s g) c
 done_at Solved g c sound e = subst (IsDone g (certificate_lines (Feasible g.values))) (some_same (Feasible g.values) c e) (record { sound = sound.few; is = refl })
 done_at Refuted g c sound e = subst (IsDone g (certificate_lines (Infeasible (refutation_of g)))) (some_same (Infeasible (refutation_of g)) c e) (record { sound = (sound.kept, sound.numbers); is = refl })
 done_at Before g c sound e = absurd (none_some c e)
@@ -62,7 +62,7 @@ done_at Bindings g c sound e = absurd (none_some c e)
 done_at Lows g c sound e = absurd (none_some c e)
 done_at Highs g c sound e = absurd (none_some c e)
 
-pub reached_none : (bytes : List ℕ) → IsReached bytes bytes 1 nothing
+pub reached_none : (bytes : List ℕ) → IsReached bytes bytes 1 no_progress
 reached_none bytes = record { before = []; are_lines = tt; cut = refl; number_is = omega arith; leads = refl }
 
 with_line : (before : List (List ℕ)) (line rest more : List ℕ) → rest ≡ line ++ 10 ∷ more → text_of before ++ rest ≡ text_of (before ++ line ∷ []) ++ more
@@ -70,7 +70,7 @@ with_line before line rest more e =
     let last : text_of (line ∷ []) ++ more ≡ line ++ 10 ∷ more = ap (λ t. t ++ more) (append-nil (line ++ codes "\n")) ∙ append_assoc line (codes "\n") more in
     ap (λ r. text_of before ++ r) (e ∙ sym last) ∙ sym (append_assoc (text_of before) (text_of (line ∷ [])) more) ∙ ap (λ t. t ++ more) (sym (text_of-append before (line ∷ [])))
 
-pub reached_more : (bytes rest line more : List ℕ) (n : ℕ) (g h : Gathered) (l : Line) → IsReached bytes rest n g → IsCut 10 rest (Some (line, more)) → Says line l → after g l ≡ Some h → IsReached bytes more (n + 1) h
+pub reached_more : (bytes rest line more : List ℕ) (n : ℕ) (g h : Progress) (l : Line) → IsReached bytes rest n g → IsCut 10 rest (Some (line, more)) → Says line l → after g l ≡ Some h → IsReached bytes more (n + 1) h
 reached_more bytes rest line more n g h l r cut says e =
     let longer = length-append r.before (line ∷ []) in
     record {
@@ -78,10 +78,10 @@ reached_more bytes rest line more n g h l r cut says e =
       are_lines = all_append IsLine r.before (line ∷ []) r.are_lines (cut.0, tt);
       cut = r.cut ∙ with_line r.before line rest more cut.1;
       number_is = omega (arith, r.number_is, longer);
-      leads = leads_append r.before (line ∷ []) nothing g h r.leads (h, inr (record { line = l; says = says; makes = e }), refl);
+      leads = leads_append r.before (line ∷ []) no_progress g h r.leads (h, inr (record { line = l; says = says; makes = e }), refl);
     }
 
-module _ (one : HasOneSpelling) (bytes rest : List ℕ) (n : ℕ) (g : Gathered) (r : IsReached bytes rest n g) where
+module _ (one : HasOneSpelling) (bytes rest : List ℕ) (n : ℕ) (g : Progress) (r : IsReached bytes rest n g) where
   standing : Stands one r.before g
   standing = stands one r.before g r.are_lines r.leads
 
@@ -99,7 +99,7 @@ module _ (one : HasOneSpelling) (bytes rest : List ℕ) (n : ℕ) (g : Gathered)
       }
 
   -- at the end of the bytes, and of a certificate
-  pub reached_text : (c : Certificate) → rest ≡ [] → ended g ≡ Some c → IsTextOf bytes c
+  pub reached_text : (c : Certificate) → rest ≡ [] → certificate_at_end g ≡ Some c → IsTextOf bytes c
   reached_text c none e =
       let d = done_at g.stage g c standing.sound e in
       record {
@@ -110,14 +110,14 @@ module _ (one : HasOneSpelling) (bytes rest : List ℕ) (n : ℕ) (g : Gathered)
       }
 
   -- a text whose lines these are ends with them
-  ends_here : Lacks 10 rest → (c : Certificate) → IsTextOf bytes c → (rest ≡ []) × (ended g ≡ Some c)
+  ends_here : Lacks 10 rest → (c : Certificate) → IsTextOf bytes c → (rest ≡ []) × (certificate_at_end g ≡ Some c)
   ends_here none c t =
       let same = lines_whole r.before (all_lines bytes c t) rest r.are_lines (text_are_lines bytes c t) none (sym r.cut ∙ t.is) in
-      let one_end = leads_same one r.before nothing g (done c) r.leads (subst (λ zs. Leads nothing zs (done c)) same.0 (text_leads bytes c t)) in
-      (same.1, ap ended one_end ∙ ended_done c)
+      let one_end = leads_same one r.before no_progress g (done c) r.leads (subst (λ zs. Leads no_progress zs (done c)) same.0 (text_leads bytes c t)) in
+      (same.1, ap certificate_at_end one_end ∙ ended_done c)
 
   -- lines are wanting, or the last one is not finished
-  pub fault_at_end : Lacks 10 rest → (rest ≡ [] → ended g ≡ None) → IsFaultAt bytes n
+  pub fault_at_end : Lacks 10 rest → (rest ≡ [] → certificate_at_end g ≡ None) → IsFaultAt bytes n
   fault_at_end none open_ = record {
     before = r.before;
     rest = rest;
@@ -133,8 +133,8 @@ module _ (one : HasOneSpelling) (bytes rest : List ℕ) (n : ℕ) (g : Gathered)
     not_begun : ¬ Begin (r.before ++ line ∷ [])
     not_begun b =
         let led = begin_leads one (r.before ++ line ∷ []) (all_append IsLine r.before (line ∷ []) r.are_lines (cut.0, tt)) b in
-        let split = leads_split r.before (line ∷ []) nothing led.0 led.1 in
-        let step = subst (λ k. Leads k (line ∷ []) led.0) (sym (leads_same one r.before nothing g split.middle r.leads split.first)) split.second in
+        let split = leads_split r.before (line ∷ []) no_progress led.0 led.1 in
+        let step = subst (λ k. Leads k (line ∷ []) led.0) (sym (leads_same one r.before no_progress g split.middle r.leads split.first)) split.second in
         none_some step.0 (sym unfit_ ∙ makes one g line step.0 l step.1 says)
 
     begun : (c : Certificate) → IsTextOf bytes c → Begin (r.before ++ line ∷ [])
@@ -157,11 +157,11 @@ module _ (one : HasOneSpelling) (bytes rest : List ℕ) (n : ℕ) (g : Gathered)
 
 -- ---- one line taken, or not
 
-pub taken_line : (o : Option Gathered) (taken : Bool) (now : Gathered) → Takes o taken now → taken ≡ true → o ≡ Some now
-taken_line (Some more) taken now t e = ap (λ (g : Gathered). Some g) (sym t.1)
+pub taken_line : (o : Option Progress) (taken : Bool) (now : Progress) → Takes o taken now → taken ≡ true → o ≡ Some now
+taken_line (Some more) taken now t e = ap (λ (g : Progress). Some g) (sym t.1)
 taken_line None taken now t e = absurd cc
 
-pub refused_line : (o : Option Gathered) (taken : Bool) (now : Gathered) → Takes o taken now → taken ≡ false → o ≡ None
+pub refused_line : (o : Option Progress) (taken : Bool) (now : Progress) → Takes o taken now → taken ≡ false → o ≡ None
 refused_line (Some more) taken now t e = absurd (let k : true ≡ false = sym t.0 ∙ e in cc)
 refused_line None taken now t e = refl
 
@@ -170,7 +170,7 @@ lines_short : (lines : List (List ℕ)) → length lines ≤ length (text_of lin
 lines_short [] = omega arith
 lines_short (x ∷ xs) = let long = length-append (x ++ codes "\n") (text_of xs) in let line = length-append x (codes "\n") in omega (arith, lines_short xs, long, line)
 
-pub reached_within : (bytes rest : List ℕ) (n : ℕ) (g : Gathered) → IsReached bytes rest n g → n + length rest ≤ length bytes + 1
+pub reached_within : (bytes rest : List ℕ) (n : ℕ) (g : Progress) → IsReached bytes rest n g → n + length rest ≤ length bytes + 1
 reached_within bytes rest n g r = let long = length-append (text_of r.before) rest in omega (arith, r.number_is, ap length r.cut, long, lines_short r.before)
 
 pub empty_of : (xs : List ℕ) (b : Bool) → b ≡ (length xs == 0) → b ≡ true → xs ≡ []

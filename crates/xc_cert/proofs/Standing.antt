@@ -6,7 +6,7 @@ use Rattle.std.proofs.lemmas.List.Elements.{All-nil}
 use Rattle.xc_cert.specs.Certificates.{IsPassed, ArePassed, opening, body_lines}
 use Rattle.xc_lists.specs.TextLines.{IsLine, AreLines}
 use Rattle.xc_cert.specs.Steps.Lines.{Says}
-use Rattle.xc_cert.specs.Steps.Reading.{Gathered, nothing, after, Passes, Fits, Leads, refutation_of}
+use Rattle.xc_cert.specs.Steps.Reading.{Progress, no_progress, after, Passes, Fits, Leads, refutation_of}
 use Rattle.xc_cert.specs.declared.line.Line.{Line}
 use Rattle.xc_cert.specs.declared.line.Line.TheVariants as line
 use Rattle.xc_cert.specs.declared.line.Word.TheVariants.{Value, Binding, Low, High}
@@ -19,7 +19,7 @@ use Rattle.xc_decimal.specs.Laws.{HasOneSpelling}
 use Rattle.xc_model.specs.Ratio.{Ratio}
 use Rattle.xc_system.specs.declared.types.Certificate.TheVariants as certificate
 
-abbrev gather : Stage → List Ratio → List (ℕ × Ratio) → List (ℕ × Ratio) → List (ℕ × Ratio) → Gathered
+abbrev gather : Stage → List Ratio → List (ℕ × Ratio) → List (ℕ × Ratio) → List (ℕ × Ratio) → Progress
 gather stage values bindings lows highs = record { stage = stage; values = values; bindings = bindings; lows = lows; highs = highs }
 
 none_some : {X : Type 0} (x : X) → ◌≡◌ {A = Option X} None (Some x) → ⊥
@@ -34,13 +34,13 @@ module _ (one : HasOneSpelling) where
   other_line text l other says is = other (says_same one text l line.Opening says is)
 
   module _ (vs : List Ratio) (bs ls hs : List (ℕ × Ratio)) (text : List ℕ) where
-    abbrev at : Stage → Gathered
+    abbrev at : Stage → Progress
     at stage = gather stage vs bs ls hs
 
-    passed_over : (l : Line) (h : Gathered) → IsSound (at Before) → IsLine text → Says text l → l ≢ line.Opening → Some (at Before) ≡ Some h → Taken (at Before) text h
+    passed_over : (l : Line) (h : Progress) → IsSound (at Before) → IsLine text → Says text l → l ≢ line.Opening → Some (at Before) ≡ Some h → Taken (at Before) text h
     passed_over l h sound is_line says other e = subst (Taken (at Before) text) (some_same (at Before) h e) (record { sound = sound; adds = passed refl refl (is_line, other_line text l other says) })
 
-    from_before : (l : Line) (h : Gathered) → IsSound (at Before) → IsLine text → Says text l → after (at Before) l ≡ Some h → Taken (at Before) text h
+    from_before : (l : Line) (h : Progress) → IsSound (at Before) → IsLine text → Says text l → after (at Before) l ≡ Some h → Taken (at Before) text h
     from_before line.Opening h sound is_line says e =
         let empty : NoLists (at Before) = sound.empty in
         subst (Taken (at Before) text) (some_same (at Opened) h e) (record {
@@ -56,7 +56,7 @@ module _ (one : HasOneSpelling) where
     abbrev body_at : List Ratio → List (List ℕ)
     body_at values = opening ∷ body_lines (certificate.Feasible values)
 
-    from_opened : (l : Line) (h : Gathered) → IsSound (at Opened) → Says text l → after (at Opened) l ≡ Some h → Taken (at Opened) text h
+    from_opened : (l : Line) (h : Progress) → IsSound (at Opened) → Says text l → after (at Opened) l ≡ Some h → Taken (at Opened) text h
     from_opened line.Feasible h sound says e =
         let empty : NoLists (at Opened) = sound.empty in
         subst (Taken (at Opened) text) (some_same (at Values) h e) (record { sound = record { few = sound.few; kept = sound.kept; numbers = sound.numbers; empty = tt }; adds = added (ap body_at empty.values ∙ ap (λ t. opening ∷ t ∷ []) (sym says)) })
@@ -73,7 +73,7 @@ module _ (one : HasOneSpelling) where
     ended_by : (s : Stage) (body : List (List ℕ)) → text ≡ codes "end" → opening ∷ (body ++ codes "end" ∷ []) ≡ (opening ∷ body) ++ text ∷ []
     ended_by s body says = ap (λ t. opening ∷ (body ++ t ∷ [])) (sym says)
 
-    from_values : (l : Line) (h : Gathered) → IsSound (at Values) → Says text l → after (at Values) l ≡ Some h → Taken (at Values) text h
+    from_values : (l : Line) (h : Progress) → IsSound (at Values) → Says text l → after (at Values) l ≡ Some h → Taken (at Values) text h
     from_values (line.Numbered Value n f) h sound says e = value_taken (at Values) text n f h refl sound says e
     from_values line.End h sound says e = subst (Taken (at Values) text) (some_same (at Solved) h e) (record { sound = record { few = sound.few; kept = sound.kept; numbers = sound.numbers; empty = tt }; adds = added (ended_by Values (body_lines (certificate.Feasible vs)) says) })
     from_values line.Opening h sound says e = absurd (none_some h e)
@@ -84,11 +84,11 @@ module _ (one : HasOneSpelling) where
     from_values (line.Numbered High n f) h sound says e = absurd (none_some h e)
     from_values line.Other h sound says e = absurd (none_some h e)
 
-    refuted_by : (s : Stage) → lines_of (at s) ≡ lines_at Bindings (at s) → (h : Gathered) → IsSound (at s) → text ≡ codes "end" → Some (at Refuted) ≡ Some h → Taken (at s) text h
+    refuted_by : (s : Stage) → lines_of (at s) ≡ lines_at Bindings (at s) → (h : Progress) → IsSound (at s) → text ≡ codes "end" → Some (at Refuted) ≡ Some h → Taken (at s) text h
     refuted_by s among h sound says e =
         subst (Taken (at s) text) (some_same (at Refuted) h e) (record { sound = record { few = sound.few; kept = sound.kept; numbers = sound.numbers; empty = tt }; adds = added (ended_by s (body_lines (certificate.Infeasible (refutation_of (at s)))) says ∙ ap (λ zs. zs ++ text ∷ []) (sym among)) })
 
-    from_bindings : (l : Line) (h : Gathered) → IsSound (at Bindings) → Says text l → after (at Bindings) l ≡ Some h → Taken (at Bindings) text h
+    from_bindings : (l : Line) (h : Progress) → IsSound (at Bindings) → Says text l → after (at Bindings) l ≡ Some h → Taken (at Bindings) text h
     from_bindings (line.Numbered Binding n f) h sound says e = binding_taken (at Bindings) sound refl text n f h refl sound.empty says e
     from_bindings (line.Numbered Low n f) h sound says e = low_taken (at Bindings) sound refl text n f h (λ k. sound.empty.1) says e
     from_bindings (line.Numbered High n f) h sound says e = high_taken (at Bindings) sound refl text n f h says e
@@ -99,7 +99,7 @@ module _ (one : HasOneSpelling) where
     from_bindings (line.Numbered Value n f) h sound says e = absurd (none_some h e)
     from_bindings line.Other h sound says e = absurd (none_some h e)
 
-    from_lows : (l : Line) (h : Gathered) → IsSound (at Lows) → Says text l → after (at Lows) l ≡ Some h → Taken (at Lows) text h
+    from_lows : (l : Line) (h : Progress) → IsSound (at Lows) → Says text l → after (at Lows) l ≡ Some h → Taken (at Lows) text h
     from_lows (line.Numbered Binding n f) h sound says e = absurd (none_some h e)
     from_lows (line.Numbered Low n f) h sound says e = low_taken (at Lows) sound refl text n f h (λ k. sound.empty) says e
     from_lows (line.Numbered High n f) h sound says e = high_taken (at Lows) sound refl text n f h says e
@@ -110,7 +110,7 @@ module _ (one : HasOneSpelling) where
     from_lows (line.Numbered Value n f) h sound says e = absurd (none_some h e)
     from_lows line.Other h sound says e = absurd (none_some h e)
 
-    from_highs : (l : Line) (h : Gathered) → IsSound (at Highs) → Says text l → after (at Highs) l ≡ Some h → Taken (at Highs) text h
+    from_highs : (l : Line) (h : Progress) → IsSound (at Highs) → Says text l → after (at Highs) l ≡ Some h → Taken (at Highs) text h
     from_highs (line.Numbered Binding n f) h sound says e = absurd (none_some h e)
     from_highs (line.Numbered Low n f) h sound says e = absurd (none_some h e)
     from_highs (line.Numbered High n f) h sound says e = high_taken (at Highs) sound refl text n f h says e
@@ -121,7 +121,7 @@ module _ (one : HasOneSpelling) where
     from_highs (line.Numbered Value n f) h sound says e = absurd (none_some h e)
     from_highs line.Other h sound says e = absurd (none_some h e)
 
-    taken_at : (s : Stage) (l : Line) (h : Gathered) → IsSound (at s) → IsLine text → Says text l → after (at s) l ≡ Some h → Taken (at s) text h
+    taken_at : (s : Stage) (l : Line) (h : Progress) → IsSound (at s) → IsLine text → Says text l → after (at s) l ≡ Some h → Taken (at s) text h
     taken_at Before l h sound is_line says e = from_before l h sound is_line says e
     taken_at Opened l h sound is_line says e = from_opened l h sound says e
     taken_at Values l h sound is_line says e = from_values l h sound says e
@@ -132,20 +132,20 @@ module _ (one : HasOneSpelling) where
     taken_at Refuted l h sound is_line says e = absurd (none_some h e)
 
   -- a line that fits is taken
-  taken : (g : Gathered) (text : List ℕ) (h : Gathered) → IsSound g → IsLine text → Passes g text h ⊎ Fits g text h → Taken g text h
+  taken : (g : Progress) (text : List ℕ) (h : Progress) → IsSound g → IsLine text → Passes g text h ⊎ Fits g text h → Taken g text h
   taken g text h sound is_line (inl p) =
       let none : lines_of g ≡ [] = ap (λ s. lines_at s g) p.stage in
       subst (Taken g text) (sym p.same) (record { sound = sound; adds = passed none none (is_line, p.other) })
   taken g text h sound is_line (inr f) = taken_at g.values g.bindings g.lows g.highs text g.stage f.line h sound is_line f.says f.makes
 
   -- the lines are some that are passed over, and then those that say it
-  pub record Stands (lines : List (List ℕ)) (g : Gathered) : Type 0 where
+  pub record Stands (lines : List (List ℕ)) (g : Progress) : Type 0 where
     pub sound : IsSound g
     pub front : List (List ℕ)
     pub are_passed : ArePassed front
     pub is : lines ≡ front ++ lines_of g
 
-  stands_more : (lines : List (List ℕ)) (g : Gathered) (text : List ℕ) (h : Gathered) → Stands lines g → Taken g text h → Stands (lines ++ text ∷ []) h
+  stands_more : (lines : List (List ℕ)) (g : Progress) (text : List ℕ) (h : Progress) → Stands lines g → Taken g text h → Stands (lines ++ text ∷ []) h
   stands_more lines g text h s t = by t.adds
     where
       by : Adds g text h → Stands (lines ++ text ∷ []) h
@@ -157,12 +157,12 @@ module _ (one : HasOneSpelling) where
         is = ap (λ zs. zs ++ text ∷ []) (s.is ∙ ap (λ zs. s.front ++ zs) e ∙ append-nil s.front) ∙ sym (append-nil (s.front ++ text ∷ [])) ∙ ap (λ zs. (s.front ++ text ∷ []) ++ zs) (sym e');
       }
 
-  stands_after : (lines more : List (List ℕ)) (g h : Gathered) → Stands lines g → AreLines more → Leads g more h → Stands (lines ++ more) h
+  stands_after : (lines more : List (List ℕ)) (g h : Progress) → Stands lines g → AreLines more → Leads g more h → Stands (lines ++ more) h
   stands_after lines [] g h s a l = subst (Stands (lines ++ [])) l (subst (λ zs. Stands zs g) (sym (append-nil lines)) s)
   stands_after lines (text ∷ texts) g h s a l =
       subst (λ zs. Stands zs h) (append_assoc lines (text ∷ []) texts) (stands_after (lines ++ text ∷ []) texts l.0 h (stands_more lines g text l.0 s (taken g text l.0 s.sound a.0 l.1)) a.1 l.2)
 
-  nothing_sound : IsSound nothing
+  nothing_sound : IsSound no_progress
   unfolding IsStrictlySortedBy
   nothing_sound = record {
     few = omega arith;
@@ -172,5 +172,5 @@ module _ (one : HasOneSpelling) where
   }
 
   -- what lines lead to from the beginning stands in them
-  pub stands : (lines : List (List ℕ)) (g : Gathered) → AreLines lines → Leads nothing lines g → Stands lines g
-  stands lines g a l = stands_after [] lines nothing g (record { sound = nothing_sound; front = []; are_passed = tt; is = refl }) a l
+  pub stands : (lines : List (List ℕ)) (g : Progress) → AreLines lines → Leads no_progress lines g → Stands lines g
+  stands lines g a l = stands_after [] lines no_progress g (record { sound = nothing_sound; front = []; are_passed = tt; is = refl }) a l

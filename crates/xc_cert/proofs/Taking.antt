@@ -9,7 +9,7 @@ use Rattle.std.proofs.lemmas.List.{map-append}
 use Rattle.std.proofs.lemmas.List.Elements.{All-push}
 use Rattle.xc_cert.specs.Certificates.{IsPassed, AreNumbers, HasNumbers, opening, numbered_line, numbered_lines, body_lines, certificate_lines}
 use Rattle.xc_cert.specs.Steps.Lines.{Says}
-use Rattle.xc_cert.specs.Steps.Reading.{Gathered, is_behind, is_not_zero, is_positive, with_more, takes_bindings, takes_lows, value_more, binding_more, low_more, high_more, refutation_of}
+use Rattle.xc_cert.specs.Steps.Reading.{Progress, is_behind, is_not_zero, is_positive, with_more, takes_bindings, takes_lows, value_more, binding_more, low_more, high_more, refutation_of}
 use Rattle.xc_cert.specs.declared.line.Line.TheVariants as line
 use Rattle.xc_cert.specs.declared.line.Word.TheVariants.{Value, Binding, Low, High}
 use Rattle.xc_cert.specs.declared.reader.Stage.{Stage}
@@ -22,14 +22,14 @@ use Rattle.xc_system.specs.declared.types.Certificate.TheVariants as certificate
 
 -- ---- what holds of what was read
 
-pub record NoLists (g : Gathered) : Type 0 where
+pub record NoLists (g : Progress) : Type 0 where
   pub values : g.values ≡ []
   pub bindings : g.bindings ≡ []
   pub lows : g.lows ≡ []
   pub highs : g.highs ≡ []
 
 -- which lists are empty yet
-abbrev pub EmptyAt : Stage → Gathered → Type 0
+abbrev pub EmptyAt : Stage → Progress → Type 0
 EmptyAt Before g = NoLists g
 EmptyAt Opened g = NoLists g
 EmptyAt Values g = Unit {0}
@@ -40,20 +40,20 @@ EmptyAt Solved g = Unit {0}
 EmptyAt Refuted g = Unit {0}
 
 -- it can become a certificate
-pub record IsSound (g : Gathered) : Type 0 where
+pub record IsSound (g : Progress) : Type 0 where
   pub few : length g.values ≤ 2 ^ 32
   pub kept : IsRefutation (refutation_of g)
   pub numbers : HasNumbers (refutation_of g)
   pub empty : EmptyAt g.stage g
 
-abbrev pub values_lines : Gathered → List (List ℕ)
+abbrev pub values_lines : Progress → List (List ℕ)
 values_lines g = opening ∷ body_lines (certificate.Feasible g.values)
 
-abbrev pub multipliers_lines : Gathered → List (List ℕ)
+abbrev pub multipliers_lines : Progress → List (List ℕ)
 multipliers_lines g = opening ∷ body_lines (certificate.Infeasible (refutation_of g))
 
 -- the lines that say it, from `certificate 1` on
-abbrev pub lines_at : Stage → Gathered → List (List ℕ)
+abbrev pub lines_at : Stage → Progress → List (List ℕ)
 lines_at Before g = []
 lines_at Opened g = opening ∷ []
 lines_at Values g = values_lines g
@@ -63,15 +63,15 @@ lines_at Highs g = multipliers_lines g
 lines_at Solved g = certificate_lines (certificate.Feasible g.values)
 lines_at Refuted g = certificate_lines (certificate.Infeasible (refutation_of g))
 
-abbrev pub lines_of : Gathered → List (List ℕ)
+abbrev pub lines_of : Progress → List (List ℕ)
 lines_of g = lines_at g.stage g
 
 -- a line adds itself to them, or is passed over
-pub data Adds (g : Gathered) (text : List ℕ) (h : Gathered) : Type 0 where
+pub data Adds (g : Progress) (text : List ℕ) (h : Progress) : Type 0 where
   added : lines_of h ≡ lines_of g ++ text ∷ [] → Adds g text h
   passed : lines_of g ≡ [] → lines_of h ≡ [] → IsPassed text → Adds g text h
 
-pub record Taken (g : Gathered) (text : List ℕ) (h : Gathered) : Type 0 where
+pub record Taken (g : Progress) (text : List ℕ) (h : Progress) : Type 0 where
   pub sound : IsSound h
   pub adds : Adds g text h
 
@@ -134,10 +134,10 @@ value_lines_more values f =
     ap (λ zs. codes "feasible" ∷ numbered_lines (codes "value") zs) (enumerate_more 0 values f ∙ ap (λ n. enumerate_from 0 values ++ (n, f) ∷ []) at)
     ∙ ap (λ zs. codes "feasible" ∷ zs) (lines_more (codes "value") (enumerate_from 0 values) (length values) f)
 
-abbrev with_values : Gathered → List Ratio → Gathered
+abbrev with_values : Progress → List Ratio → Progress
 with_values g values = record g { values = values }
 
-pub value_taken : (g : Gathered) (text : List ℕ) (n : ℕ) (f : Ratio) (h : Gathered) → g.stage ≡ Values → IsSound g → Says text (line.Numbered Value n f) → value_more g n f ≡ Some h → Taken g text h
+pub value_taken : (g : Progress) (text : List ℕ) (n : ℕ) (f : Ratio) (h : Progress) → g.stage ≡ Values → IsSound g → Says text (line.Numbered Value n f) → value_more g n f ≡ Some h → Taken g text h
 value_taken g text n f h stage sound says e =
     let c = chosen (n == length g.values) (with_values g (g.values ++ f ∷ [])) h e in
     let at : n ≡ length g.values = eqb-true n (length g.values) c.0 in
@@ -151,7 +151,7 @@ value_taken g text n f h stage sound says e =
 
 -- ---- multipliers
 
-module _ (g : Gathered) (sound : IsSound g) (among : lines_of g ≡ multipliers_lines g) (text : List ℕ) (n : ℕ) (f : Ratio) (h : Gathered) where
+module _ (g : Progress) (sound : IsSound g) (among : lines_of g ≡ multipliers_lines g) (text : List ℕ) (n : ℕ) (f : Ratio) (h : Progress) where
   abbrev rest_lines : List (List ℕ) → List (List ℕ) → List (List ℕ) → List (List ℕ)
   rest_lines bs ls hs = opening ∷ codes "infeasible" ∷ (bs ++ (ls ++ hs))
 

@@ -14,11 +14,13 @@ use Rattle.xc_system.specs.declared.types.Certificate.TheVariants.{Feasible, Inf
 abbrev pub numbered_line : List ℕ → ℕ × Ratio → List ℕ
 numbered_line word m = word ++ codes " " ++ decimal m.0 ++ codes " " ++ spelling m.1
 
+-- such a line for each
 abbrev pub numbered_lines : List ℕ → List (ℕ × Ratio) → List (List ℕ)
 numbered_lines word listed = map (numbered_line word) listed
 
 -- ---- certificates
 
+-- the line with which a certificate begins
 abbrev pub opening : List ℕ
 opening = codes "certificate 1"
 
@@ -61,6 +63,7 @@ IsCertificate (Infeasible r) = IsRefutation r × HasNumbers r
 abbrev pub IsPassed : List ℕ → Type 0
 IsPassed line = IsLine line × (line ≢ opening)
 
+-- each of these lines is passed over
 abbrev pub ArePassed : List (List ℕ) → Type 0
 ArePassed lines = AllByRecursion IsPassed lines
 

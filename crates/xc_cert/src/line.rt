@@ -36,14 +36,14 @@ pub enum Word {
 pub fn cut(text: &[u8], byte: u8) -> Option<(&[u8], &[u8])>
     ensures { IsCut byte text.now (option_map (λ parts. (parts.0.now, parts.1.now)) result) }
 {
-    match place_of(text, byte) {
+    match byte_place(text, byte) {
         Some(at) => Some((&text[..at], &text[at + 1..])),
         None => None,
     }
 }
 
 // The place of the first such byte.
-fn place_of(text: &[u8], byte: u8) -> Option<usize>
+fn byte_place(text: &[u8], byte: u8) -> Option<usize>
     ensures { result ≡ position (λ b. b == byte) text.now }
 {
     text.iter().position(|b| *b == byte)
@@ -65,14 +65,14 @@ pub fn line_of(text: &[u8]) -> Line
     if text == b"end".as_slice() {
         return Line::End;
     }
-    match numbered(text) {
+    match numbered_parts(text) {
         Some((word, number, fraction)) => Line::Numbered(word, number, fraction),
         None => Line::Other,
     }
 }
 
 // The word, the number and the fraction of a line that has nothing else.
-fn numbered(text: &[u8]) -> Option<(Word, u32, Frac)>
+fn numbered_parts(text: &[u8]) -> Option<(Word, u32, Frac)>
     ensures { IsNumbered text.now result }
 {
     let Some((word, rest)) = cut(text, b' ') else {
@@ -117,13 +117,13 @@ fn number_of(text: &[u8]) -> Option<u32>
     ensures { IsNumber text.now result }
 {
     match read_frac(text) {
-        Some(value) => whole(value),
+        Some(value) => whole_number(value),
         None => None,
     }
 }
 
 // The number that a fraction is, where it is below 2^32.
-fn whole(value: Frac) -> Option<u32>
+fn whole_number(value: Frac) -> Option<u32>
     ensures { IsWhole value result }
 {
     if denominator(value) != 1 {
@@ -132,7 +132,7 @@ fn whole(value: Frac) -> Option<u32>
     if is_negative(value) {
         return None;
     }
-    narrowed(magnitude(value))
+    narrow(magnitude(value))
 }
 
 fn denominator(value: Frac) -> u128
@@ -154,7 +154,7 @@ fn magnitude(value: Frac) -> u128
 }
 
 // The number, where it is below 2^32.
-fn narrowed(number: u128) -> Option<u32>
+fn narrow(number: u128) -> Option<u32>
     ensures { SomeIff result (number < 2 ^ 32) number }
 {
     if number < 1 << 32 {

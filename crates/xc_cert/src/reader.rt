@@ -1,6 +1,6 @@
 // A certificate text, read line after line.
 ghost use Rattle.std.specs.Prelude.{◌≡◌, ◌<◌, ◌≤◌, IfOk, length};
-ghost use Rattle.xc_cert.specs.Steps.Reading.{Takes, Grows, gathered, nothing, after, is_behind, is_not_zero, is_positive, takes_bindings, takes_lows, with_more, value_more, binding_more, low_more, high_more, before_more, opened_more, values_more, multipliers_more, refutation_of, ended};
+ghost use Rattle.xc_cert.specs.Steps.Reading.{Takes, Grows, progress_of, no_progress, after, is_behind, is_not_zero, is_positive, takes_bindings, takes_lows, with_more, value_more, binding_more, low_more, high_more, before_more, opened_more, values_more, multipliers_more, refutation_of, certificate_at_end};
 ghost use Rattle.xc_system.specs.Kept.{IsRefutation};
 
 use crate::line::{Line, Word};
@@ -43,7 +43,7 @@ pub struct Reader {
 impl Reader {
     /// A reader before the first line.
     pub fn new(alloc: Global) -> Reader
-        ensures { gathered result ≡ nothing }
+        ensures { progress_of result ≡ no_progress }
     {
         Reader {
             stage: Stage::Before,
@@ -56,7 +56,7 @@ impl Reader {
 
     /// Takes the next line, or says that it does not fit.
     pub fn take(&mut self, line: Line) -> Result<bool, AllocError>
-        ensures { IfOk result (λ taken. Takes (after (gathered self.old) line) taken (gathered self.new)) }
+        ensures { IfOk result (λ taken. Takes (after (progress_of self.old) line) taken (progress_of self.new)) }
     {
         match self.stage {
             Stage::Before => Ok(self.take_before(line)),
@@ -69,7 +69,7 @@ impl Reader {
 
     // A line before the certificate, or its first line.
     fn take_before(&mut self, line: Line) -> bool
-        ensures { Takes (before_more (gathered self.old) line) result (gathered self.new) }
+        ensures { Takes (before_more (progress_of self.old) line) result (progress_of self.new) }
     {
         if let Line::Opening = line {
             self.stage = Stage::Opened;
@@ -79,7 +79,7 @@ impl Reader {
 
     // The line that says which kind of certificate it is.
     fn take_kind(&mut self, line: Line) -> bool
-        ensures { Takes (opened_more (gathered self.old) line) result (gathered self.new) }
+        ensures { Takes (opened_more (progress_of self.old) line) result (progress_of self.new) }
     {
         match line {
             Line::Feasible => {
@@ -96,7 +96,7 @@ impl Reader {
 
     // A value, or the end.
     fn take_value(&mut self, line: Line) -> Result<bool, AllocError>
-        ensures { IfOk result (λ taken. Takes (values_more (gathered self.old) line) taken (gathered self.new)) }
+        ensures { IfOk result (λ taken. Takes (values_more (progress_of self.old) line) taken (progress_of self.new)) }
     {
         match line {
             Line::Numbered(word, number, value) => self.take_numbered_value(word, number, value),
@@ -115,7 +115,7 @@ impl Reader {
         number: u32,
         value: Frac,
     ) -> Result<bool, AllocError>
-        ensures { IfOk result (λ taken. Takes (values_more (gathered self.old) (Line.Numbered word number value)) taken (gathered self.new)) }
+        ensures { IfOk result (λ taken. Takes (values_more (progress_of self.old) (Line.Numbered word number value)) taken (progress_of self.new)) }
     {
         match word {
             Word::Value => self.push_value(number, value),
@@ -125,7 +125,7 @@ impl Reader {
 
     // The value with the next number.
     fn push_value(&mut self, number: u32, value: Frac) -> Result<bool, AllocError>
-        ensures { IfOk result (λ taken. Takes (value_more (gathered self.old) number value) taken (gathered self.new)) }
+        ensures { IfOk result (λ taken. Takes (value_more (progress_of self.old) number value) taken (progress_of self.new)) }
     {
         if number as usize != self.values.len() {
             return Ok(false);
@@ -136,7 +136,7 @@ impl Reader {
 
     // A multiplier, or the end.
     fn take_multiplier(&mut self, line: Line) -> Result<bool, AllocError>
-        ensures { IfOk result (λ taken. Takes (multipliers_more (gathered self.old) line) taken (gathered self.new)) }
+        ensures { IfOk result (λ taken. Takes (multipliers_more (progress_of self.old) line) taken (progress_of self.new)) }
     {
         match line {
             Line::Numbered(word, number, multiplier) => self.take_numbered_multiplier(
@@ -157,7 +157,7 @@ impl Reader {
         number: u32,
         multiplier: Frac,
     ) -> Result<bool, AllocError>
-        ensures { IfOk result (λ taken. Takes (multipliers_more (gathered self.old) (Line.Numbered word number multiplier)) taken (gathered self.new)) }
+        ensures { IfOk result (λ taken. Takes (multipliers_more (progress_of self.old) (Line.Numbered word number multiplier)) taken (progress_of self.new)) }
     {
         match word {
             Word::Binding => self.push_binding(number, multiplier),
@@ -169,7 +169,7 @@ impl Reader {
 
     // A multiplier of an equation.
     fn push_binding(&mut self, number: u32, multiplier: Frac) -> Result<bool, AllocError>
-        ensures { IfOk result (λ taken. Takes (binding_more (gathered self.old) number multiplier) taken (gathered self.new)) }
+        ensures { IfOk result (λ taken. Takes (binding_more (progress_of self.old) number multiplier) taken (progress_of self.new)) }
     {
         if !takes_bindings(self.stage) {
             return Ok(false);
@@ -186,7 +186,7 @@ impl Reader {
 
     // A multiplier of a low end.
     fn push_low(&mut self, number: u32, multiplier: Frac) -> Result<bool, AllocError>
-        ensures { IfOk result (λ taken. Takes (low_more (gathered self.old) number multiplier) taken (gathered self.new)) }
+        ensures { IfOk result (λ taken. Takes (low_more (progress_of self.old) number multiplier) taken (progress_of self.new)) }
     {
         if !takes_lows(self.stage) {
             return Ok(false);
@@ -204,7 +204,7 @@ impl Reader {
 
     // A multiplier of a high end.
     fn push_high(&mut self, number: u32, multiplier: Frac) -> Result<bool, AllocError>
-        ensures { IfOk result (λ taken. Takes (high_more (gathered self.old) number multiplier) taken (gathered self.new)) }
+        ensures { IfOk result (λ taken. Takes (high_more (progress_of self.old) number multiplier) taken (progress_of self.new)) }
     {
         if !is_positive(multiplier) {
             return Ok(false);
@@ -219,8 +219,8 @@ impl Reader {
 
     /// The certificate, once its end was read.
     pub fn certificate(self) -> Option<Certificate>
-        requires { IsRefutation (refutation_of (gathered self)) }
-        ensures { result ≡ ended (gathered self) }
+        requires { IsRefutation (refutation_of (progress_of self)) }
+        ensures { result ≡ certificate_at_end (progress_of self) }
     {
         match self.stage {
             Stage::Solved => Some(Certificate::Feasible(Items::of(self.values))),

@@ -4,7 +4,7 @@ use std::alloc::Global;
 use std::test::Fail;
 
 // What is written of the certificate that is read of a text.
-fn again(alloc: Global, text: &str) -> Result<Vec<u8>, Fail> {
+fn write_again(alloc: Global, text: &str) -> Result<Vec<u8>, Fail> {
     let certificate = read_certificate(alloc, text.as_bytes())?;
     let mut out = Vec::new(alloc);
     write_certificate(alloc, &mut out, &certificate)?;
@@ -41,7 +41,7 @@ fn certificate_texts(rt: HostRuntime) -> Result<(), Fail> {
     ] {
         let whole = format!(in alloc; "{front}{text}")?;
         assert_eq!(rt;
-            again(alloc, whole.as_str())?.as_slice(),
+            write_again(alloc, whole.as_str())?.as_slice(),
             text.as_bytes(),
             "{text}"
         );

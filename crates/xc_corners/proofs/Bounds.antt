@@ -13,15 +13,15 @@ use Rattle.xc_model.proofs.Rescaled.{over_same_number, over_scaled, over_same_de
 use Rattle.xc_corners.specs.Corners.{low_bound, high_bound, range_of}
 use Rattle.xc_corners.specs.Laws.{EndBounds, RowBounds}
 use Rattle.xc_corners.specs.Problems.{low_pair, high_pair, zero_range}
-use Rattle.xc_corners.specs.WholeNumbers.{whole, common, times_common, ends_of}
+use Rattle.xc_corners.specs.WholeNumbers.{whole_problem, product_of_denominators, times_common, ends_of}
 use Rattle.xc_corners.specs.declared.problem.Problem.{Problem}
 use Rattle.xc_corners.proofs.CommonDenominators.{Divides, common_positive, is_times_common, ends_divide}
 
-pub range_whole : (problem : Problem) (j : ℕ) (range : Interval Ratio) → slice_get problem.ranges j ≡ Some range → range_of (whole problem) j ≡ between (times_common (common (ends_of problem.ranges))) range
-unfolding whole
+pub range_whole : (problem : Problem) (j : ℕ) (range : Interval Ratio) → slice_get problem.ranges j ≡ Some range → range_of (whole_problem problem) j ≡ between (times_common (product_of_denominators (ends_of problem.ranges))) range
+unfolding whole_problem
 range_whole problem j range e =
-    get_or-map (between (times_common (common (ends_of problem.ranges)))) problem.ranges j range zero_range (slice_get_within problem.ranges j range e)
-    ∙ ap (between (times_common (common (ends_of problem.ranges)))) (get_or_from_slice_get problem.ranges j range range e)
+    get_or-map (between (times_common (product_of_denominators (ends_of problem.ranges)))) problem.ranges j range zero_range (slice_get_within problem.ranges j range e)
+    ∙ ap (between (times_common (product_of_denominators (ends_of problem.ranges)))) (get_or_from_slice_get problem.ranges j range range e)
 
 module _ (d : ℕ) (p : 0 < d) where
   -- n over 1 is n d over d
@@ -45,9 +45,9 @@ module _ (d : ℕ) (p : 0 < d) where
   high_tiny (Open g) f h = over_same_number f _ _ d (units f (negsuc 0) h) (omega (arith, ints))
 
 pub end_bounds : EndBounds
-unfolding low_bound high_bound whole
+unfolding low_bound high_bound whole_problem
 end_bounds problem j range f e =
-    let d = common (ends_of problem.ranges) in
+    let d = product_of_denominators (ends_of problem.ranges) in
     let p = common_positive (ends_of problem.ranges) in
     let inside = slice_get_within problem.ranges j range e in
     let same = get_or_from_slice_get problem.ranges j range range e in
@@ -61,7 +61,7 @@ end_bounds problem j range f e =
     }
 
 pub row_bounds : RowBounds
-unfolding low_bound high_bound whole
+unfolding low_bound high_bound whole_problem
 row_bounds problem j h =
-    let past = get_or_past (map (between (times_common (common (ends_of problem.ranges)))) problem.ranges) j zero_range (omega (arith, length-map problem.ranges (between (times_common (common (ends_of problem.ranges)))))) in
-    (ap (λ (r : Interval ℤ). low_pair (common (ends_of problem.ranges)) r.low) past, ap (λ (r : Interval ℤ). high_pair (common (ends_of problem.ranges)) r.high) past)
+    let past = get_or_past (map (between (times_common (product_of_denominators (ends_of problem.ranges)))) problem.ranges) j zero_range (omega (arith, length-map problem.ranges (between (times_common (product_of_denominators (ends_of problem.ranges)))))) in
+    (ap (λ (r : Interval ℤ). low_pair (product_of_denominators (ends_of problem.ranges)) r.low) past, ap (λ (r : Interval ℤ). high_pair (product_of_denominators (ends_of problem.ranges)) r.high) past)

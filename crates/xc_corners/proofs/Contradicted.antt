@@ -15,12 +15,12 @@ use Rattle.xc_model.specs.Ratio.{Ratio, fraction_of}
 use Rattle.xc_model.proofs.Integers.{ring, cancel, cancel_lt, scale_lt}
 use Rattle.xc_model.proofs.NumbersOver.{over_number, sum_number, neg_number}
 use Rattle.xc_model.proofs.Over.{sign_over}
-use Rattle.xc_corners.specs.Answers.{weighed, one_at, low_at, high_at, is_low_open, is_high_open, coefficient, constant, lists_open, IsShort, AreListed, Contradicts}
-use Rattle.xc_corners.specs.Conflicts.{named_end, end_of, combined, left_over, Refutes, AreMultipliersOf}
+use Rattle.xc_corners.specs.Answers.{sum_over_lines, one_at, low_at, high_at, is_low_open, is_high_open, coefficient, constant, lists_open, IsShort, AreListed, Contradicts}
+use Rattle.xc_corners.specs.Conflicts.{named_end, end_of, whole_coefficient, whole_constant, Refutes, AreMultipliersOf}
 use Rattle.xc_corners.specs.Corners.{low_bound, high_bound}
 use Rattle.xc_corners.specs.Operations.{entries_of}
 use Rattle.xc_corners.specs.Problems.{low_pair, high_pair, total, unit_at, row_at}
-use Rattle.xc_corners.specs.WholeNumbers.{whole, common, times_common, ends_of, weights_of}
+use Rattle.xc_corners.specs.WholeNumbers.{whole_problem, product_of_denominators, times_common, ends_of, weights_of}
 use Rattle.xc_corners.specs.declared.multipliers.Multipliers.{Multipliers}
 use Rattle.xc_corners.specs.declared.problem.Problem.{Problem}
 use Rattle.xc_corners.proofs.Bounds.{end_bounds, range_whole}
@@ -37,16 +37,16 @@ range_there [] j h = absurd (omega (arith, h))
 range_there (range ∷ ranges) zero h = (range, refl)
 range_there (range ∷ ranges) (suc j) h = range_there ranges j (omega (arith, h))
 
-low_over : (problem : Problem) (j : ℕ) → j < length problem.ranges → IsNumberOver (low_at problem j) (low_bound (whole problem) j).real (whole problem).unit
+low_over : (problem : Problem) (j : ℕ) → j < length problem.ranges → IsNumberOver (low_at problem j) (low_bound (whole_problem problem) j).real (whole_problem problem).unit
 low_over problem j h =
     let there = range_there problem.ranges j h in
-    subst (λ (o : Option (Interval Ratio)). IsNumberOver (option_map_or (λ range. fraction_of (value_of range.low)) o (whole_number (pos 0))) (low_bound (whole problem) j).real (whole problem).unit) (sym there.1)
+    subst (λ (o : Option (Interval Ratio)). IsNumberOver (option_map_or (λ range. fraction_of (value_of range.low)) o (whole_number (pos 0))) (low_bound (whole_problem problem) j).real (whole_problem problem).unit) (sym there.1)
     (over_number _ _ _ (end_bounds problem j there.0 (value_of there.0.low) there.1).low_real)
 
-high_over : (problem : Problem) (j : ℕ) → j < length problem.ranges → IsNumberOver (high_at problem j) (high_bound (whole problem) j).real (whole problem).unit
+high_over : (problem : Problem) (j : ℕ) → j < length problem.ranges → IsNumberOver (high_at problem j) (high_bound (whole_problem problem) j).real (whole_problem problem).unit
 high_over problem j h =
     let there = range_there problem.ranges j h in
-    subst (λ (o : Option (Interval Ratio)). IsNumberOver (option_map_or (λ range. fraction_of (value_of range.high)) o (whole_number (pos 0))) (high_bound (whole problem) j).real (whole problem).unit) (sym there.1)
+    subst (λ (o : Option (Interval Ratio)). IsNumberOver (option_map_or (λ range. fraction_of (value_of range.high)) o (whole_number (pos 0))) (high_bound (whole_problem problem) j).real (whole_problem problem).unit) (sym there.1)
     (over_number _ _ _ (end_bounds problem j there.0 (value_of there.0.high) there.1).high_real)
 
 closed_low : (d : ℕ) (end : End Ratio) → is_open end ≡ false → (low_pair d (end_at (times_common d) end)).tiny ≡ pos 0
@@ -63,19 +63,19 @@ closed_high d (Open e) h = absurd (no h)
     no : true ≡ false → ⊥
     no e = subst (λ (b : Bool). cond b (Unit {0}) ⊥) e tt
 
-low_tiny : (problem : Problem) (j : ℕ) → j < length problem.ranges → is_low_open problem j ≡ false → (low_bound (whole problem) j).tiny ≡ pos 0
-unfolding low_bound whole
+low_tiny : (problem : Problem) (j : ℕ) → j < length problem.ranges → is_low_open problem j ≡ false → (low_bound (whole_problem problem) j).tiny ≡ pos 0
+unfolding low_bound whole_problem
 low_tiny problem j h o =
     let there = range_there problem.ranges j h in
-    ap (λ (range : Interval ℤ). (low_pair (common (ends_of problem.ranges)) range.low).tiny) (range_whole problem j there.0 there.1)
-    ∙ closed_low (common (ends_of problem.ranges)) there.0.low (ap (λ (q : Option (Interval Ratio)). option_map_or (λ range. is_open range.low) q false) (sym there.1) ∙ o)
+    ap (λ (range : Interval ℤ). (low_pair (product_of_denominators (ends_of problem.ranges)) range.low).tiny) (range_whole problem j there.0 there.1)
+    ∙ closed_low (product_of_denominators (ends_of problem.ranges)) there.0.low (ap (λ (q : Option (Interval Ratio)). option_map_or (λ range. is_open range.low) q false) (sym there.1) ∙ o)
 
-high_tiny : (problem : Problem) (j : ℕ) → j < length problem.ranges → is_high_open problem j ≡ false → (high_bound (whole problem) j).tiny ≡ pos 0
-unfolding high_bound whole
+high_tiny : (problem : Problem) (j : ℕ) → j < length problem.ranges → is_high_open problem j ≡ false → (high_bound (whole_problem problem) j).tiny ≡ pos 0
+unfolding high_bound whole_problem
 high_tiny problem j h o =
     let there = range_there problem.ranges j h in
-    ap (λ (range : Interval ℤ). (high_pair (common (ends_of problem.ranges)) range.high).tiny) (range_whole problem j there.0 there.1)
-    ∙ closed_high (common (ends_of problem.ranges)) there.0.high (ap (λ (q : Option (Interval Ratio)). option_map_or (λ range. is_open range.high) q false) (sym there.1) ∙ o)
+    ap (λ (range : Interval ℤ). (high_pair (product_of_denominators (ends_of problem.ranges)) range.high).tiny) (range_whole problem j there.0 there.1)
+    ∙ closed_high (product_of_denominators (ends_of problem.ranges)) there.0.high (ap (λ (q : Option (Interval Ratio)). option_map_or (λ range. is_open range.high) q false) (sym there.1) ∙ o)
 
 -- 1 at j, over any denominator
 unit_over : (d j k : ℕ) → 0 < d → IsNumberOver (one_at j k) (pos d *ℤ unit_at j k) (d * 1)
@@ -88,11 +88,11 @@ unit_over d j k p = go (eqb k j)
     go true = record { positive = omega (arith, p); cross = one }
     go false = record { positive = omega (arith, p); cross = omega (arith, ints) }
 
-pub unit_row : (problem : Problem) (i j : ℕ) → IsNumberOver (weighed (entries_of problem i) (one_at j)) (total (row_at (whole problem) i) (unit_at j)) ((whole problem).scale * 1)
-unfolding whole
+pub unit_row : (problem : Problem) (i j : ℕ) → IsNumberOver (sum_over_lines (entries_of problem i) (one_at j)) (total (row_at (whole_problem problem) i) (unit_at j)) ((whole_problem problem).scale * 1)
+unfolding whole_problem
 unit_row problem i j =
-    let d = common (weights_of problem.rows) in
-    subst (λ (row : List (ℕ × ℤ)). IsNumberOver (weighed (entries_of problem i) (one_at j)) (total row (unit_at j)) (d * 1)) (sym (row_whole problem i))
+    let d = product_of_denominators (weights_of problem.rows) in
+    subst (λ (row : List (ℕ × ℤ)). IsNumberOver (sum_over_lines (entries_of problem i) (one_at j)) (total row (unit_at j)) (d * 1)) (sym (row_whole problem i))
     (row_over d (one_at j) (unit_at j) 1 (entries_of problem i) (common_positive (weights_of problem.rows)) (omega arith) (weights_divide problem.rows i)
     (recursion_from_All (λ (entry : ℕ × Ratio). IsNumberOver (one_at j entry.0) (unit_at j entry.0) 1) (entries_of problem i) (λ k none l. go _)))
   where
@@ -151,20 +151,20 @@ named_part (pos zero) low high c e = omega (arith, ints)
 named_part (pos (suc n)) low high c e = rw (e.0 (omega (arith, ints))) (low_alone (pos (suc n)) low high)
 named_part (negsuc n) low high c e = rw (e.1 (omega (arith, ints))) (high_alone (pos (suc n)) low high)
 
-module _ (problem : Problem) (m : ℕ → ℤ) (d : ℕ) (ms : Multipliers) (p : 0 < d) (refutes : Refutes (whole problem) m) (are : AreMultipliersOf (whole problem) m d ms) where
+module _ (problem : Problem) (m : ℕ → ℤ) (d : ℕ) (ms : Multipliers) (p : 0 < d) (refutes : Refutes (whole_problem problem) m) (are : AreMultipliersOf (whole_problem problem) m d ms) where
   abbrev ranges : ℕ
-  ranges = length (whole problem).ranges
+  ranges = length (whole_problem problem).ranges
 
   inside : (j : ℕ) → j < ranges → j < length problem.ranges
   inside j h = subst (λ (n : ℕ). j < n) (ranges_whole problem) h
 
   -- the coefficient of range j, over d times the scale
-  coefficient_over : (j : ℕ) → j < ranges → IsNumberOver (coefficient problem ms j) (combined (whole problem) m j) (d * ((whole problem).scale * 1))
-  unfolding combined
+  coefficient_over : (j : ℕ) → j < ranges → IsNumberOver (coefficient problem ms j) (whole_coefficient (whole_problem problem) m j) (d * ((whole_problem problem).scale * 1))
+  unfolding whole_coefficient
   coefficient_over j h =
-      let s = (whole problem).scale in
+      let s = (whole_problem problem).scale in
       let q : 0 < s * 1 = omega (arith, scale_positive problem) in
-      let rows = some_sum (length (whole problem).rows) d (s * 1) (λ i. m (ranges + i)) ms.rows are.rows (λ i. weighed (entries_of problem i) (one_at j)) (λ i. total (row_at (whole problem) i) (unit_at j)) p q (λ i l. unit_row problem i j) in
+      let rows = some_sum (length (whole_problem problem).rows) d (s * 1) (λ i. m (ranges + i)) ms.rows are.rows (λ i. sum_over_lines (entries_of problem i) (one_at j)) (λ i. total (row_at (whole_problem problem) i) (unit_at j)) p q (λ i l. unit_row problem i j) in
       let lows = positive_sum ranges d (s * 1) m ms.lows are.lows (one_at j) (λ k. pos s *ℤ unit_at j k) p q (λ k l. unit_over s j k (scale_positive problem)) in
       let highs = positive_sum ranges d (s * 1) (λ k. neg_ℤ (m k)) ms.highs are.highs (one_at j) (λ k. pos s *ℤ unit_at j k) p q (λ k l. unit_over s j k (scale_positive problem)) in
       let all = sum_number _ _ _ _ (d * (s * 1)) rows (sum_number _ _ _ _ (d * (s * 1)) lows (neg_number _ _ (d * (s * 1)) highs)) in
@@ -175,15 +175,15 @@ module _ (problem : Problem) (m : ℕ → ℤ) (d : ℕ) (ms : Multipliers) (p :
       joined r a b c e f g = omega (arith, ints, e, f, g)
 
   -- the constant, over d times the unit
-  constant_over : IsNumberOver (constant problem ms) (left_over (whole problem) m).real (d * (whole problem).unit)
-  unfolding left_over
+  constant_over : IsNumberOver (constant problem ms) (whole_constant (whole_problem problem) m).real (d * (whole_problem problem).unit)
+  unfolding whole_constant
   constant_over =
-      let u = (whole problem).unit in
-      let lows = positive_sum ranges d u m ms.lows are.lows (low_at problem) (λ k. (low_bound (whole problem) k).real) p (unit_positive problem) (λ k l. low_over problem k (inside k l)) in
-      let highs = positive_sum ranges d u (λ k. neg_ℤ (m k)) ms.highs are.highs (high_at problem) (λ k. (high_bound (whole problem) k).real) p (unit_positive problem) (λ k l. high_over problem k (inside k l)) in
+      let u = (whole_problem problem).unit in
+      let lows = positive_sum ranges d u m ms.lows are.lows (low_at problem) (λ k. (low_bound (whole_problem problem) k).real) p (unit_positive problem) (λ k l. low_over problem k (inside k l)) in
+      let highs = positive_sum ranges d u (λ k. neg_ℤ (m k)) ms.highs are.highs (high_at problem) (λ k. (high_bound (whole_problem problem) k).real) p (unit_positive problem) (λ k l. high_over problem k (inside k l)) in
       subst (λ (n : ℤ). IsNumberOver (constant problem ms) n (d * u))
-      (sum_minus ranges (λ k. positive_part (neg_ℤ (m k)) *ℤ (high_bound (whole problem) k).real) (λ k. positive_part (m k) *ℤ (low_bound (whole problem) k).real)
-      ∙ sum_same ranges _ _ (λ j l. named_part (m j) _ _ (named_end (whole problem) m j).real (named (m j) (low_bound (whole problem) j) (high_bound (whole problem) j))))
+      (sum_minus ranges (λ k. positive_part (neg_ℤ (m k)) *ℤ (high_bound (whole_problem problem) k).real) (λ k. positive_part (m k) *ℤ (low_bound (whole_problem problem) k).real)
+      ∙ sum_same ranges _ _ (λ j l. named_part (m j) _ _ (named_end (whole_problem problem) m j).real (named (m j) (low_bound (whole_problem problem) j) (high_bound (whole_problem problem) j))))
       (sum_number _ _ _ _ (d * u) highs (neg_number _ _ (d * u) lows))
     where
       named : (c : ℤ) (low high : WholeParts) → (pos 0 <ℤ c → (end_of c low high).real ≡ low.real) × (c <ℤ pos 0 → (end_of c low high).real ≡ high.real)
@@ -191,9 +191,9 @@ module _ (problem : Problem) (m : ℕ → ℤ) (d : ℕ) (ms : Multipliers) (p :
       named (negsuc n) low high = (λ h. absurd (omega (arith, ints, h)), λ h. refl)
 
   -- where no listed end is open, the constant has no tiny part
-  closed_tiny : lists_open problem ms ≡ false → (left_over (whole problem) m).tiny ≡ pos 0
-  unfolding left_over
-  closed_tiny h = sum_of_zeros ranges (λ j. neg_ℤ (m j) *ℤ (named_end (whole problem) m j).tiny) (λ j l. go j l (m j) refl)
+  closed_tiny : lists_open problem ms ≡ false → (whole_constant (whole_problem problem) m).tiny ≡ pos 0
+  unfolding whole_constant
+  closed_tiny h = sum_of_zeros ranges (λ j. neg_ℤ (m j) *ℤ (named_end (whole_problem problem) m j).tiny) (λ j l. go j l (m j) refl)
     where
       both : (list_any (λ line. is_low_open problem line.0) ms.lows ≡ false) × (list_any (λ line. is_high_open problem line.0) ms.highs ≡ false)
       both = or_parts (list_any (λ line. is_low_open problem line.0) ms.lows) (list_any (λ line. is_high_open problem line.0) ms.highs) h
@@ -201,15 +201,15 @@ module _ (problem : Problem) (m : ℕ → ℤ) (d : ℕ) (ms : Multipliers) (p :
       no_tiny : (c v : ℤ) → v ≡ pos 0 → c *ℤ v ≡ pos 0
       no_tiny c v e = rw e (omega (arith, ints))
 
-      go : (j : ℕ) → j < ranges → (c : ℤ) → m j ≡ c → neg_ℤ (m j) *ℤ (end_of (m j) (low_bound (whole problem) j) (high_bound (whole problem) j)).tiny ≡ pos 0
+      go : (j : ℕ) → j < ranges → (c : ℤ) → m j ≡ c → neg_ℤ (m j) *ℤ (end_of (m j) (low_bound (whole_problem problem) j) (high_bound (whole_problem problem) j)).tiny ≡ pos 0
       go j l (pos zero) e = rw e (omega (arith, ints))
-      go j l (pos (suc n)) e = rw e (no_tiny (negsuc n) (low_bound (whole problem) j).tiny (low_tiny problem j (inside j l) (none_so (is_low_open problem) ms.lows j both.0 (are.lows.all j l (rw e (omega (arith, ints)))))))
-      go j l (negsuc n) e = rw e (no_tiny (pos (suc n)) (high_bound (whole problem) j).tiny (high_tiny problem j (inside j l) (none_so (is_high_open problem) ms.highs j both.1 (are.highs.all j l (rw e (omega (arith, ints)))))))
+      go j l (pos (suc n)) e = rw e (no_tiny (negsuc n) (low_bound (whole_problem problem) j).tiny (low_tiny problem j (inside j l) (none_so (is_low_open problem) ms.lows j both.0 (are.lows.all j l (rw e (omega (arith, ints)))))))
+      go j l (negsuc n) e = rw e (no_tiny (pos (suc n)) (high_bound (whole_problem problem) j).tiny (high_tiny problem j (inside j l) (none_so (is_high_open problem) ms.highs j both.1 (are.highs.all j l (rw e (omega (arith, ints)))))))
 
   short : IsShort problem ms
   short = go refutes.short (cases_Bool (lists_open problem ms))
     where
-      go : ((left_over (whole problem) m).real <ℤ pos 0) ⊎ (((left_over (whole problem) m).real ≡ pos 0) × ((left_over (whole problem) m).tiny <ℤ pos 0)) → ((lists_open problem ms ≡ true) ⊎ (lists_open problem ms ≡ false)) → IsShort problem ms
+      go : ((whole_constant (whole_problem problem) m).real <ℤ pos 0) ⊎ (((whole_constant (whole_problem problem) m).real ≡ pos 0) × ((whole_constant (whole_problem problem) m).tiny <ℤ pos 0)) → ((lists_open problem ms ≡ true) ⊎ (lists_open problem ms ≡ false)) → IsShort problem ms
       go (inl h) o = inl (negative_num _ _ _ constant_over h)
       go (inr h) (inl o) = inr (zero_num _ _ _ constant_over h.0, o)
       go (inr h) (inr o) = absurd (omega (arith, ints, h.1, closed_tiny o))

@@ -20,15 +20,14 @@ use Rattle.xc_model.proofs.NumbersOver.{over_number, number_over}
 use Rattle.xc_model.proofs.OrdersOver.{below_over, at_most_over}
 use Rattle.xc_model.proofs.Rescaled.{over_scaled}
 use Rattle.xc_model.proofs.Pairs.{same_pairs}
-use Rattle.xc_corners.specs.Answers.{weighed, value_at, Solves}
-use Rattle.xc_corners.specs.Conflicts.{nothing}
+use Rattle.xc_corners.specs.Answers.{sum_over_lines, value_at, Solves}
 use Rattle.xc_corners.specs.Corners.{variables, low_bound, high_bound, AddUp, Corner, Factors, bound, value, IsWithin}
 use Rattle.xc_corners.specs.Ending.{IsSmallNumber, IsValueWith, AreValuesWith}
 use Rattle.xc_corners.specs.LastOperations.{IsFeasibleAt}
 use Rattle.xc_corners.specs.Operations.{entries_of}
-use Rattle.xc_corners.specs.Pairs.{◌≼◌, times}
+use Rattle.xc_corners.specs.Pairs.{◌≼◌, times, zero_pair}
 use Rattle.xc_corners.specs.Problems.{IsWholeProblem, IsProblem, low_pair, high_pair, row_at, total}
-use Rattle.xc_corners.specs.WholeNumbers.{whole, common, times_common, ends_of, weights_of}
+use Rattle.xc_corners.specs.WholeNumbers.{whole_problem, product_of_denominators, times_common, ends_of, weights_of}
 use Rattle.xc_corners.specs.declared.problem.Problem.{Problem}
 use Rattle.xc_corners.proofs.Bounds.{end_bounds, range_whole}
 use Rattle.xc_corners.proofs.CommonDenominators.{weights_divide, common_positive}
@@ -119,55 +118,55 @@ open_high w d (Open e) p q = negative (pos w) (pos d) (mul_positive (pos w) (pos
 value_cross : (t n d m : ℤ) → (n *ℤ t) *ℤ (d *ℤ m) ≡ (t *ℤ n) *ℤ (m *ℤ d)
 value_cross t n d m = simp ring
 
-module _ (problem : Problem) (h : IsProblem problem) (x : Corner) (t : Factors) (at : IsFeasibleAt problem x t) (s : Ratio) (small : IsSmallNumber (whole problem) x t s) where
-  is_whole : IsWholeProblem (whole problem)
+module _ (problem : Problem) (h : IsProblem problem) (x : Corner) (t : Factors) (at : IsFeasibleAt problem x t) (s : Ratio) (small : IsSmallNumber (whole_problem problem) x t s) where
+  is_whole : IsWholeProblem (whole_problem problem)
   is_whole = whole_too problem h
 
   abbrev over_all : ℕ
-  over_all = unsigned_abs s.den * (t.over * (whole problem).unit)
+  over_all = unsigned_abs s.den * (t.over * (whole_problem problem).unit)
 
   n_positive : pos 0 <ℤ s.num
-  n_positive = small_is_positive (whole problem) x t at.solved s small
+  n_positive = small_is_positive (whole_problem problem) x t at.solved s small
 
   -- the value of a variable, over that
   abbrev at_value : ℕ → ℤ
-  at_value j = pos (unsigned_abs s.den) *ℤ (value (whole problem) x t j).real +ℤ s.num *ℤ (value (whole problem) x t j).tiny
+  at_value j = pos (unsigned_abs s.den) *ℤ (value (whole_problem problem) x t j).real +ℤ s.num *ℤ (value (whole_problem problem) x t j).tiny
 
-  within_at : (j : ℕ) → j < variables (whole problem) → IsWithin (whole problem) x t j
+  within_at : (j : ℕ) → j < variables (whole_problem problem) → IsWithin (whole_problem problem) x t j
   within_at j l = go (x.basic j) refl
     where
-      go : (b : Bool) → x.basic j ≡ b → IsWithin (whole problem) x t j
+      go : (b : Bool) → x.basic j ≡ b → IsWithin (whole_problem problem) x t j
       go true e = at.feasible.within j l e
-      go false e = other_within (whole problem) x t j (open_from_problem (whole problem) is_whole) e
+      go false e = other_within (whole_problem problem) x t j (open_from_problem (whole_problem problem) is_whole) e
 
-  is_variable : (j : ℕ) → j < length (whole problem).ranges → j < variables (whole problem)
+  is_variable : (j : ℕ) → j < length (whole_problem problem).ranges → j < variables (whole_problem problem)
   unfolding variables
   is_variable j l = omega (arith, l)
 
-  value_over : (j : ℕ) (v : Ratio) → IsValueWith (whole problem) x t s j v → IsOver v (at_value j) over_all
+  value_over : (j : ℕ) (v : Ratio) → IsValueWith (whole_problem problem) x t s j v → IsOver v (at_value j) over_all
   value_over j v is =
       let m = unsigned_abs s.den in
-      let d = t.over * (whole problem).unit in
+      let d = t.over * (whole_problem problem).unit in
       let real = over_scaled is.real _ d m (fraction_of s).positive is.is_real in
       let own : IsOver s s.num m = number_over s s.num m (itself s) in
-      let product = product_gives is.is_product.tiny s is.product (value (whole problem) x t j).tiny s.num (s.num *ℤ (value (whole problem) x t j).tiny) d m (m * d) is.is_product.is_tiny own (record { positive = mul-pos (fraction_of s).positive is.is_real.positive; cross = value_cross (value (whole problem) x t j).tiny s.num (pos d) (pos m) }) is.is_product.gives in
+      let product = product_gives is.is_product.tiny s is.product (value (whole_problem problem) x t j).tiny s.num (s.num *ℤ (value (whole_problem problem) x t j).tiny) d m (m * d) is.is_product.is_tiny own (record { positive = mul-pos (fraction_of s).positive is.is_real.positive; cross = value_cross (value (whole_problem problem) x t j).tiny s.num (pos d) (pos m) }) is.is_product.gives in
       sum_gives is.real is.product v _ _ (m * d) real product is.gives
 
   -- a bound, over that
-  bound_over : (f : Ratio) (n : ℤ) → IsOver f n (whole problem).unit → IsOver f (pos (unsigned_abs s.den) *ℤ (pos t.over *ℤ n)) over_all
-  bound_over f n o = over_scaled f _ (t.over * (whole problem).unit) (unsigned_abs s.den) (fraction_of s).positive (over_scaled f n (whole problem).unit t.over at.solved.positive o)
+  bound_over : (f : Ratio) (n : ℤ) → IsOver f n (whole_problem problem).unit → IsOver f (pos (unsigned_abs s.den) *ℤ (pos t.over *ℤ n)) over_all
+  bound_over f n o = over_scaled f _ (t.over * (whole_problem problem).unit) (unsigned_abs s.den) (fraction_of s).positive (over_scaled f n (whole_problem problem).unit t.over at.solved.positive o)
 
-  low_open : (j : ℕ) (range : Interval Ratio) → slice_get problem.ranges j ≡ Some range → IsLess (is_open range.low) (pos 0) (pos t.over *ℤ (low_bound (whole problem) j).tiny)
-  unfolding low_bound whole
-  low_open j range e = subst (λ (r : Interval ℤ). IsLess (is_open range.low) (pos 0) (pos t.over *ℤ (low_pair (common (ends_of problem.ranges)) r.low).tiny)) (sym (range_whole problem j range e))
-      (open_low t.over (common (ends_of problem.ranges)) range.low at.solved.positive (common_positive (ends_of problem.ranges)))
+  low_open : (j : ℕ) (range : Interval Ratio) → slice_get problem.ranges j ≡ Some range → IsLess (is_open range.low) (pos 0) (pos t.over *ℤ (low_bound (whole_problem problem) j).tiny)
+  unfolding low_bound whole_problem
+  low_open j range e = subst (λ (r : Interval ℤ). IsLess (is_open range.low) (pos 0) (pos t.over *ℤ (low_pair (product_of_denominators (ends_of problem.ranges)) r.low).tiny)) (sym (range_whole problem j range e))
+      (open_low t.over (product_of_denominators (ends_of problem.ranges)) range.low at.solved.positive (common_positive (ends_of problem.ranges)))
 
-  high_open : (j : ℕ) (range : Interval Ratio) → slice_get problem.ranges j ≡ Some range → IsLess (is_open range.high) (pos t.over *ℤ (high_bound (whole problem) j).tiny) (pos 0)
-  unfolding high_bound whole
-  high_open j range e = subst (λ (r : Interval ℤ). IsLess (is_open range.high) (pos t.over *ℤ (high_pair (common (ends_of problem.ranges)) r.high).tiny) (pos 0)) (sym (range_whole problem j range e))
-      (open_high t.over (common (ends_of problem.ranges)) range.high at.solved.positive (common_positive (ends_of problem.ranges)))
+  high_open : (j : ℕ) (range : Interval Ratio) → slice_get problem.ranges j ≡ Some range → IsLess (is_open range.high) (pos t.over *ℤ (high_bound (whole_problem problem) j).tiny) (pos 0)
+  unfolding high_bound whole_problem
+  high_open j range e = subst (λ (r : Interval ℤ). IsLess (is_open range.high) (pos t.over *ℤ (high_pair (product_of_denominators (ends_of problem.ranges)) r.high).tiny) (pos 0)) (sym (range_whole problem j range e))
+      (open_high t.over (product_of_denominators (ends_of problem.ranges)) range.high at.solved.positive (common_positive (ends_of problem.ranges)))
 
-  has_number : (j : ℕ) (range : Interval Ratio) (v : Ratio) → j < length (whole problem).ranges → slice_get problem.ranges j ≡ Some range → IsOver v (at_value j) over_all → HasNumber (numbers_of range) (fraction_of v)
+  has_number : (j : ℕ) (range : Interval Ratio) (v : Ratio) → j < length (whole_problem problem).ranges → slice_get problem.ranges j ≡ Some range → IsOver v (at_value j) over_all → HasNumber (numbers_of range) (fraction_of v)
   has_number j range v l e o =
       let ends = end_bounds problem j range (value_of range.low) e in
       let within = within_at j (is_variable j l) in
@@ -175,53 +174,53 @@ module _ (problem : Problem) (h : IsProblem problem) (x : Corner) (t : Factors) 
       let m_positive : pos 0 <ℤ m = den_positive (fraction_of s) in
       record {
         low = past_end range.low (fraction_of v) _ _ over_all (over_number _ _ _ (bound_over _ _ ends.low_real)) (over_number v _ _ o)
-            (above_low (is_open range.low) s.num m (pos t.over *ℤ (low_bound (whole problem) j).real) (pos t.over *ℤ (low_bound (whole problem) j).tiny) (value (whole problem) x t j).real (value (whole problem) x t j).tiny
-            n_positive m_positive (low_open j range e) within.0 (λ k i. small_below (whole problem) x t at.solved s small false j l (k, i)));
+            (above_low (is_open range.low) s.num m (pos t.over *ℤ (low_bound (whole_problem problem) j).real) (pos t.over *ℤ (low_bound (whole_problem problem) j).tiny) (value (whole_problem problem) x t j).real (value (whole_problem problem) x t j).tiny
+            n_positive m_positive (low_open j range e) within.0 (λ k i. small_below (whole_problem problem) x t at.solved s small false j l (k, i)));
         high = before_end range.high (fraction_of v) _ _ over_all (over_number _ _ _ (bound_over _ _ ends.high_real)) (over_number v _ _ o)
-            (below_high (is_open range.high) s.num m (pos t.over *ℤ (high_bound (whole problem) j).real) (pos t.over *ℤ (high_bound (whole problem) j).tiny) (value (whole problem) x t j).real (value (whole problem) x t j).tiny
-            n_positive m_positive (high_open j range e) within.1 (λ k i. small_below (whole problem) x t at.solved s small true j l (k, i)));
+            (below_high (is_open range.high) s.num m (pos t.over *ℤ (high_bound (whole_problem problem) j).real) (pos t.over *ℤ (high_bound (whole_problem problem) j).tiny) (value (whole_problem problem) x t j).real (value (whole_problem problem) x t j).tiny
+            n_positive m_positive (high_open j range e) within.1 (λ k i. small_below (whole_problem problem) x t at.solved s small true j l (k, i)));
       }
 
   -- ---- the rows
-  no_times : (d : ℕ) → times (pos d) nothing ≡ nothing
+  no_times : (d : ℕ) → times (pos d) zero_pair ≡ zero_pair
   no_times d = same_pairs _ _ (omega (arith, ints)) (omega (arith, ints))
 
-  row_is_variable : (i : ℕ) → i < length (whole problem).rows → length (whole problem).ranges + i < variables (whole problem)
+  row_is_variable : (i : ℕ) → i < length (whole_problem problem).rows → length (whole_problem problem).ranges + i < variables (whole_problem problem)
   unfolding variables
   row_is_variable i l = omega (arith, l)
 
-  row_value : (i : ℕ) → i < length (whole problem).rows → value (whole problem) x t (length (whole problem).ranges + i) ≡ nothing
+  row_value : (i : ℕ) → i < length (whole_problem problem).rows → value (whole_problem problem) x t (length (whole_problem problem).ranges + i) ≡ zero_pair
   row_value i l =
-      let j = length (whole problem).ranges + i in
+      let j = length (whole_problem problem).ranges + i in
       let within = within_at j (row_is_variable i l) in
-      let low : times (pos t.over) (low_bound (whole problem) j) ≡ nothing = ap (times (pos t.over)) (low_past (whole problem) j (omega arith)) ∙ no_times t.over in
-      let high : times (pos t.over) (high_bound (whole problem) j) ≡ nothing = ap (times (pos t.over)) (high_past (whole problem) j (omega arith)) ∙ no_times t.over in
-      antisymmetric _ _ (subst (λ (c : WholeParts). value (whole problem) x t j ≼ c) high within.1) (subst (λ (c : WholeParts). c ≼ value (whole problem) x t j) low within.0)
+      let low : times (pos t.over) (low_bound (whole_problem problem) j) ≡ zero_pair = ap (times (pos t.over)) (low_past (whole_problem problem) j (omega arith)) ∙ no_times t.over in
+      let high : times (pos t.over) (high_bound (whole_problem problem) j) ≡ zero_pair = ap (times (pos t.over)) (high_past (whole_problem problem) j (omega arith)) ∙ no_times t.over in
+      antisymmetric _ _ (subst (λ (c : WholeParts). value (whole_problem problem) x t j ≼ c) high within.1) (subst (λ (c : WholeParts). c ≼ value (whole_problem problem) x t j) low within.0)
 
   from_zero : (c : ℕ) (u v : ℤ) → pos c *ℤ u ≡ v → u ≡ pos 0 → v ≡ pos 0
   from_zero c u v e g = sym e ∙ rw g (omega (arith, ints))
 
   -- the real parts add up to 0, and the tiny ones too
-  part_zero : (i : ℕ) → i < length (whole problem).rows → (total (row_at (whole problem) i) (λ j. (value (whole problem) x t j).real) ≡ pos 0) × (total (row_at (whole problem) i) (λ j. (value (whole problem) x t j).tiny) ≡ pos 0)
+  part_zero : (i : ℕ) → i < length (whole_problem problem).rows → (total (row_at (whole_problem problem) i) (λ j. (value (whole_problem problem) x t j).real) ≡ pos 0) × (total (row_at (whole_problem problem) i) (λ j. (value (whole_problem problem) x t j).tiny) ≡ pos 0)
   unfolding value AddUp
   part_zero i l =
-      let real = spread_meets (whole problem) x t (λ k. (bound (whole problem) x k).real) at.solved i l in
-      let tiny = spread_meets (whole problem) x t (λ k. (bound (whole problem) x k).tiny) at.solved i l in
-      (from_zero (whole problem).scale _ _ real (ap (λ (c : WholeParts). c.real) (row_value i l)), from_zero (whole problem).scale _ _ tiny (ap (λ (c : WholeParts). c.tiny) (row_value i l)))
+      let real = spread_meets (whole_problem problem) x t (λ k. (bound (whole_problem problem) x k).real) at.solved i l in
+      let tiny = spread_meets (whole_problem problem) x t (λ k. (bound (whole_problem problem) x k).tiny) at.solved i l in
+      (from_zero (whole_problem problem).scale _ _ real (ap (λ (c : WholeParts). c.real) (row_value i l)), from_zero (whole_problem problem).scale _ _ tiny (ap (λ (c : WholeParts). c.tiny) (row_value i l)))
 
-  row_zero : (i : ℕ) → i < length (whole problem).rows → total (row_at (whole problem) i) at_value ≡ pos 0
+  row_zero : (i : ℕ) → i < length (whole_problem problem).rows → total (row_at (whole_problem problem) i) at_value ≡ pos 0
   row_zero i l =
       let both = part_zero i l in
-      total_plus (row_at (whole problem) i) (λ j. pos (unsigned_abs s.den) *ℤ (value (whole problem) x t j).real) (λ j. s.num *ℤ (value (whole problem) x t j).tiny)
-      ∙ ap₂ ◌+ℤ◌ (scaled (pos (unsigned_abs s.den)) (λ j. (value (whole problem) x t j).real) both.0) (scaled s.num (λ j. (value (whole problem) x t j).tiny) both.1)
+      total_plus (row_at (whole_problem problem) i) (λ j. pos (unsigned_abs s.den) *ℤ (value (whole_problem problem) x t j).real) (λ j. s.num *ℤ (value (whole_problem problem) x t j).tiny)
+      ∙ ap₂ ◌+ℤ◌ (scaled (pos (unsigned_abs s.den)) (λ j. (value (whole_problem problem) x t j).real) both.0) (scaled s.num (λ j. (value (whole_problem problem) x t j).tiny) both.1)
     where
       turned : (a b : ℤ) → a *ℤ b ≡ b *ℤ a
       turned a b = simp ring
 
-      scaled : (c : ℤ) (f : ℕ → ℤ) → total (row_at (whole problem) i) f ≡ pos 0 → total (row_at (whole problem) i) (λ j. c *ℤ f j) ≡ pos 0
-      scaled c f e = total_same (row_at (whole problem) i) (λ j. c *ℤ f j) (λ j. f j *ℤ c) (λ k d q. turned c (f _)) ∙ sym (total_scale_right (row_at (whole problem) i) f c) ∙ ap (λ z. z *ℤ c) e ∙ omega (arith, ints)
+      scaled : (c : ℤ) (f : ℕ → ℤ) → total (row_at (whole_problem problem) i) f ≡ pos 0 → total (row_at (whole_problem problem) i) (λ j. c *ℤ f j) ≡ pos 0
+      scaled c f e = total_same (row_at (whole_problem problem) i) (λ j. c *ℤ f j) (λ j. f j *ℤ c) (λ k d q. turned c (f _)) ∙ sym (total_scale_right (row_at (whole_problem problem) i) f c) ∙ ap (λ z. z *ℤ c) e ∙ omega (arith, ints)
 
-  module _ (values : List Ratio) (are : AreValuesWith (whole problem) x t s values) where
+  module _ (values : List Ratio) (are : AreValuesWith (whole_problem problem) x t s values) where
     value_there : (values : List Ratio) (j : ℕ) → j < length values → (v : Ratio) × (slice_get values j ≡ Some v)
     value_there [] j l = absurd (omega (arith, l))
     value_there (v ∷ values) zero l = (v, refl)
@@ -241,10 +240,10 @@ module _ (problem : Problem) (h : IsProblem problem) (x : Corner) (t : Factors) 
         let there = number_over_all j l in
         subst (λ (z : Fraction). HasNumber (numbers_of range) z) (sym there.1) (has_number j range there.0 (subst (λ (k : ℕ). j < k) (sym (ranges_whole problem)) l) e there.2)
 
-    row_met : (i : ℕ) → i < length problem.rows → (weighed (entries_of problem i) (value_at values)).num ≡ pos 0
-    unfolding whole
+    row_met : (i : ℕ) → i < length problem.rows → (sum_over_lines (entries_of problem i) (value_at values)).num ≡ pos 0
+    unfolding whole_problem
     row_met i l =
-        let d = common (weights_of problem.rows) in
+        let d = product_of_denominators (weights_of problem.rows) in
         let entries = entries_of problem i in
         let sums = row_over d (value_at values) at_value over_all entries (common_positive (weights_of problem.rows)) all_positive (weights_divide problem.rows i)
         (recursion_from_All (λ (entry : ℕ × Ratio). IsNumberOver (value_at values entry.0) (at_value entry.0) over_all) entries (λ k none q. value_at_over _ (h.named i [] l k none q))) in

@@ -10,8 +10,8 @@ use Rattle.std.specs.Ordering.{nat_cmp}
 use Rattle.std.specs.declared.cmp.Ordering.TheVariants.{Less}
 use Rattle.xc_model.specs.Fraction.{Fraction, IsNumberOver}
 use Rattle.xc_model.specs.Ratio.{Ratio}
-use Rattle.xc_corners.specs.Answers.{weighed}
-use Rattle.xc_corners.specs.Conflicts.{IsSome, IsPositive, AreLinesOf}
+use Rattle.xc_corners.specs.Answers.{sum_over_lines}
+use Rattle.xc_corners.specs.Conflicts.{IsNonzero, IsPositive, AreLinesOf}
 use Rattle.xc_corners.specs.Pairs.{sum_below}
 use Rattle.xc_corners.proofs.Sums.{sum_same, sum_at, sum_of_zeros, without}
 use Rattle.xc_corners.proofs.Weighed.{line_total, IsLineOver, weighed_over}
@@ -93,19 +93,19 @@ module _ (n d e : ℕ) (count : ℕ → ℤ) (Counts : ℤ → Type 0) (lines : 
   below : AllByRecursion (λ line. line.0 < n) lines
   below = recursion_from_All (λ (line : ℕ × Ratio). line.0 < n) lines are.listed.below
 
-  counted_over : IsNumberOver (weighed lines z) (sum_below n (counted_at lines count h)) (d * e)
+  counted_over : IsNumberOver (sum_over_lines lines z) (sum_below n (counted_at lines count h)) (d * e)
   counted_over = rw (← line_sum n count h lines are.listed.ascend below) (weighed_over (λ line. count line.0) d z h e lines p q all_over)
 
-  pub sum_over : (f : ℕ → ℤ) → ((j : ℕ) → j < n → Counts (count j) → f j ≡ count j) → ((j : ℕ) → j < n → (Counts (count j) → ⊥) → f j ≡ pos 0) → IsNumberOver (weighed lines z) (sum_below n (λ j. f j *ℤ h j)) (d * e)
+  pub sum_over : (f : ℕ → ℤ) → ((j : ℕ) → j < n → Counts (count j) → f j ≡ count j) → ((j : ℕ) → j < n → (Counts (count j) → ⊥) → f j ≡ pos 0) → IsNumberOver (sum_over_lines lines z) (sum_below n (λ j. f j *ℤ h j)) (d * e)
   sum_over f some none = rw (← sum_same n (counted_at lines count h) (λ j. f j *ℤ h j) (λ j l. go j l (cases_Bool (is_listed lines j)))) counted_over
     where
       go : (j : ℕ) → j < n → ((is_listed lines j ≡ true) ⊎ (is_listed lines j ≡ false)) → counted_at lines count h j ≡ f j *ℤ h j
       go j l (inl b) = rw (b, some j l (listed_counts Counts count lines j counts b)) refl
       go j l (inr b) = rw (b, none j l (λ c. false≢true (sym b ∙ are.all j l c))) (sym (no_count (h j)))
 
-pub some_sum : (n d e : ℕ) (count : ℕ → ℤ) (lines : List (ℕ × Ratio)) → AreLinesOf n count IsSome d lines → (z : ℕ → Fraction) (h : ℕ → ℤ) → 0 < d → 0 < e → ((j : ℕ) → j < n → IsNumberOver (z j) (h j) e)
-    → IsNumberOver (weighed lines z) (sum_below n (λ j. count j *ℤ h j)) (d * e)
-some_sum n d e count lines are z h p q numbers = sum_over n d e count IsSome lines are z h p q numbers count (λ j l c. refl) (λ j l c. none (count j) c)
+pub some_sum : (n d e : ℕ) (count : ℕ → ℤ) (lines : List (ℕ × Ratio)) → AreLinesOf n count IsNonzero d lines → (z : ℕ → Fraction) (h : ℕ → ℤ) → 0 < d → 0 < e → ((j : ℕ) → j < n → IsNumberOver (z j) (h j) e)
+    → IsNumberOver (sum_over_lines lines z) (sum_below n (λ j. count j *ℤ h j)) (d * e)
+some_sum n d e count lines are z h p q numbers = sum_over n d e count IsNonzero lines are z h p q numbers count (λ j l c. refl) (λ j l c. none (count j) c)
   where
     none : (m : ℤ) → (m ≢ pos 0 → ⊥) → m ≡ pos 0
     none (pos zero) c = refl
@@ -113,6 +113,6 @@ some_sum n d e count lines are z h p q numbers = sum_over n d e count IsSome lin
     none (negsuc n) c = absurd (c (λ e. absurd (omega (arith, ints, e))))
 
 pub positive_sum : (n d e : ℕ) (count : ℕ → ℤ) (lines : List (ℕ × Ratio)) → AreLinesOf n count IsPositive d lines → (z : ℕ → Fraction) (h : ℕ → ℤ) → 0 < d → 0 < e → ((j : ℕ) → j < n → IsNumberOver (z j) (h j) e)
-    → IsNumberOver (weighed lines z) (sum_below n (λ j. positive_part (count j) *ℤ h j)) (d * e)
+    → IsNumberOver (sum_over_lines lines z) (sum_below n (λ j. positive_part (count j) *ℤ h j)) (d * e)
 positive_sum n d e count lines are z h p q numbers =
     sum_over n d e count IsPositive lines are z h p q numbers (λ j. positive_part (count j)) (λ j l c. part_of_positive (count j) c) (λ j l c. part_of_other (count j) c)

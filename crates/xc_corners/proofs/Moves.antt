@@ -6,7 +6,7 @@ use Rattle.std.proofs.lemmas.List.{get_or_past}
 use Rattle.std.specs.Ordering.{int_eq}
 use Rattle.xc_model.specs.Parts.{WholeParts}
 use Rattle.xc_model.proofs.Pairs.{same_pairs}
-use Rattle.xc_corners.specs.Choices.{is_same_pair, exchanged, Exchange, Moves}
+use Rattle.xc_corners.specs.Choices.{is_same_pair, corner_after_exchange, Exchange, Moves}
 use Rattle.xc_corners.specs.Corners.{low_bound, high_bound, Corner, range_of}
 use Rattle.xc_corners.specs.Pairs.{◌≼◌}
 use Rattle.xc_corners.specs.Problems.{WholeProblem, IsWholeProblem, low_pair, high_pair, zero_range}
@@ -25,20 +25,20 @@ open_from_problem p h j = go (cases_lt j (length p.ranges))
     go (inr k) = rw (get_or_past p.ranges j zero_range k) (le_refl _)
 
 -- ---- what an exchange leaves
-pub kept_basic : (p : WholeProblem) (x : Corner) (above : Bool) (b q j : ℕ) → (j ≡ b → ⊥) → (j ≡ q → ⊥) → (exchanged p x above b q).basic j ≡ x.basic j
-unfolding exchanged
+pub kept_basic : (p : WholeProblem) (x : Corner) (above : Bool) (b q j : ℕ) → (j ≡ b → ⊥) → (j ≡ q → ⊥) → (corner_after_exchange p x above b q).basic j ≡ x.basic j
+unfolding corner_after_exchange
 kept_basic p x above b q j n m = simp (ne_eqb j b n, ne_eqb j q m)
 
-pub kept_high : (p : WholeProblem) (x : Corner) (above : Bool) (b q j : ℕ) → (j ≡ b → ⊥) → (j ≡ q → ⊥) → (exchanged p x above b q).high j ≡ x.high j
-unfolding exchanged
+pub kept_high : (p : WholeProblem) (x : Corner) (above : Bool) (b q j : ℕ) → (j ≡ b → ⊥) → (j ≡ q → ⊥) → (corner_after_exchange p x above b q).high j ≡ x.high j
+unfolding corner_after_exchange
 kept_high p x above b q j n m = simp (ne_eqb j b n, ne_eqb j q m)
 
-pub left_basic : (p : WholeProblem) (x : Corner) (above : Bool) (b q : ℕ) → (b ≡ q → ⊥) → (exchanged p x above b q).basic b ≡ false
-unfolding exchanged
+pub left_basic : (p : WholeProblem) (x : Corner) (above : Bool) (b q : ℕ) → (b ≡ q → ⊥) → (corner_after_exchange p x above b q).basic b ≡ false
+unfolding corner_after_exchange
 left_basic p x above b q n = simp (ne_eqb b q n, eq-eqb b b refl)
 
-pub entered_basic : (p : WholeProblem) (x : Corner) (above : Bool) (b q : ℕ) → (exchanged p x above b q).basic q ≡ true
-unfolding exchanged
+pub entered_basic : (p : WholeProblem) (x : Corner) (above : Bool) (b q : ℕ) → (corner_after_exchange p x above b q).basic q ≡ true
+unfolding corner_after_exchange
 entered_basic p x above b q = simp (eq-eqb q q refl)
 
 apart_pair : (a b : WholeParts) → a ≢ b → is_same_pair a b ≡ false
@@ -50,8 +50,8 @@ apart_pair a b n = go (int_eq a.real b.real) (int_eq a.tiny b.tiny) (λ e. (Deci
     go false true e f = refl
     go false false e f = refl
 
-pub left_high : (p : WholeProblem) (x : Corner) (above : Bool) (b q : ℕ) → (b ≡ q → ⊥) → low_bound p b ≢ high_bound p b → (exchanged p x above b q).high b ≡ above
-unfolding exchanged
+pub left_high : (p : WholeProblem) (x : Corner) (above : Bool) (b q : ℕ) → (b ≡ q → ⊥) → low_bound p b ≢ high_bound p b → (corner_after_exchange p x above b q).high b ≡ above
+unfolding corner_after_exchange
 left_high p x true b q n m = simp (ne_eqb b q n, eq-eqb b b refl, apart_pair (low_bound p b) (high_bound p b) m)
 left_high p x false b q n m = simp (ne_eqb b q n, eq-eqb b b refl, apart_pair (low_bound p b) (high_bound p b) m)
 

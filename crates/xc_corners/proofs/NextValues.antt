@@ -6,11 +6,11 @@ use Rattle.std.proofs.lemmas.Bool.{cases_eq, eq-eqb, ne_eqb, false≢true}
 use Rattle.xc_model.specs.Parts.{WholeParts}
 use Rattle.xc_model.proofs.Integers.{ring, mul_left_comm, unsigned_abs_some}
 use Rattle.xc_model.proofs.Pairs.{pair_cases}
-use Rattle.xc_corners.specs.Choices.{exchanged}
+use Rattle.xc_corners.specs.Choices.{corner_after_exchange}
 use Rattle.xc_corners.specs.Corners.{variables, low_bound, high_bound, Corner, Factors, IsSolvedForm, bound, spread}
 use Rattle.xc_corners.specs.Operations.{passed_bound}
 use Rattle.xc_corners.specs.Problems.{WholeProblem}
-use Rattle.xc_corners.specs.Tables.{pivoted, sign}
+use Rattle.xc_corners.specs.Tables.{factors_after_exchange, sign}
 use Rattle.xc_corners.proofs.Moves.{kept_basic, kept_high, left_basic, left_high}
 use Rattle.xc_corners.proofs.Pairs.{cancel_positive}
 use Rattle.xc_corners.proofs.Pivoting.{rest_for, sum_before, exchange_solves, unsigned_abs-sign, over_is}
@@ -40,7 +40,7 @@ module _ (p : WholeProblem) (x : Corner) (t : Factors) (f : IsSolvedForm p x t) 
   at_x j = c (bound p x j)
 
   unfoldable pub at_y : ℕ → ℤ
-  at_y j = c (bound p (exchanged p x above b q) j)
+  at_y j = c (bound p (corner_after_exchange p x above b q) j)
 
   b_apart : b ≡ q → ⊥
   b_apart d = false≢true (sym eq ∙ ap x.basic (sym d) ∙ eb)
@@ -63,29 +63,29 @@ module _ (p : WholeProblem) (x : Corner) (t : Factors) (f : IsSolvedForm p x t) 
       same d true false = ap c (sym d)
       same d false true = ap c d
 
-      go : ((low_bound p b ≡ high_bound p b) ⊎ (low_bound p b ≢ high_bound p b)) → c (cond ((exchanged p x above b q).high b) (high_bound p b) (low_bound p b)) ≡ c (passed_bound p above b)
-      go (inl d) = same d ((exchanged p x above b q).high b) above
+      go : ((low_bound p b ≡ high_bound p b) ⊎ (low_bound p b ≢ high_bound p b)) → c (cond ((corner_after_exchange p x above b q).high b) (high_bound p b) (low_bound p b)) ≡ c (passed_bound p above b)
+      go (inl d) = same d ((corner_after_exchange p x above b q).high b) above
       go (inr d) = ap (λ (s : Bool). c (cond s (high_bound p b) (low_bound p b))) (left_high p x above b q b_apart d) ∙ side above
 
   unfoldable pub next_at : ℕ → ℤ
-  next_at j = spread p (exchanged p x above b q) (pivoted t b q) at_y j
+  next_at j = spread p (corner_after_exchange p x above b q) (factors_after_exchange t b q) at_y j
 
-  pub next_other : (j : ℕ) → x.basic j ≡ false → (j ≡ q → ⊥) → next_at j ≡ pos (pivoted t b q).over *ℤ at_x j
+  pub next_other : (j : ℕ) → x.basic j ≡ false → (j ≡ q → ⊥) → next_at j ≡ pos (factors_after_exchange t b q).over *ℤ at_x j
   unfolding next_at
   next_other j e d =
       let j_apart : j ≡ b → ⊥ = λ g. false≢true (sym e ∙ ap x.basic g ∙ eb) in
-      spread_at_other p (exchanged p x above b q) (pivoted t b q) at_y j (kept_basic p x above b q j j_apart d ∙ e) ∙ ap (λ (v : ℤ). pos (pivoted t b q).over *ℤ v) (kept_bound j j_apart d)
+      spread_at_other p (corner_after_exchange p x above b q) (factors_after_exchange t b q) at_y j (kept_basic p x above b q j j_apart d ∙ e) ∙ ap (λ (v : ℤ). pos (factors_after_exchange t b q).over *ℤ v) (kept_bound j j_apart d)
 
-  pub next_b : next_at b ≡ pos (pivoted t b q).over *ℤ c (passed_bound p above b)
+  pub next_b : next_at b ≡ pos (factors_after_exchange t b q).over *ℤ c (passed_bound p above b)
   unfolding next_at
-  next_b = spread_at_other p (exchanged p x above b q) (pivoted t b q) at_y b (left_basic p x above b q b_apart) ∙ ap (λ (v : ℤ). pos (pivoted t b q).over *ℤ v) left_bound
+  next_b = spread_at_other p (corner_after_exchange p x above b q) (factors_after_exchange t b q) at_y b (left_basic p x above b q b_apart) ∙ ap (λ (v : ℤ). pos (factors_after_exchange t b q).over *ℤ v) left_bound
 
   row_at : (k : ℕ) → k < variables p → x.basic k ≡ true → pos t.over *ℤ next_at k ≡ t.factor k q *ℤ next_at q +ℤ (sign (t.factor b q) *ℤ t.factor b q *ℤ pos t.over) *ℤ rest_for p x t k q at_x
   unfolding next_at
   row_at k h e =
-      f.sums _ (spread_meets p (exchanged p x above b q) (pivoted t b q) at_y (exchange_solves p x t above b q hb hq eb eq n f)) k h e
-      ∙ sum_before p x t k q (spread p (exchanged p x above b q) (pivoted t b q) at_y) hq eq
-      ∙ ap (λ (v : ℤ). t.factor k q *ℤ spread p (exchanged p x above b q) (pivoted t b q) at_y q +ℤ v) (rest_same p x t k q (pos (pivoted t b q).over) (spread p (exchanged p x above b q) (pivoted t b q) at_y) at_x (λ j l d g. next_other j d g) ∙ ap (λ (v : ℤ). v *ℤ rest_for p x t k q at_x) (over_is t b q))
+      f.sums _ (spread_meets p (corner_after_exchange p x above b q) (factors_after_exchange t b q) at_y (exchange_solves p x t above b q hb hq eb eq n f)) k h e
+      ∙ sum_before p x t k q (spread p (corner_after_exchange p x above b q) (factors_after_exchange t b q) at_y) hq eq
+      ∙ ap (λ (v : ℤ). t.factor k q *ℤ spread p (corner_after_exchange p x above b q) (factors_after_exchange t b q) at_y q +ℤ v) (rest_same p x t k q (pos (factors_after_exchange t b q).over) (spread p (corner_after_exchange p x above b q) (factors_after_exchange t b q) at_y) at_x (λ j l d g. next_other j d g) ∙ ap (λ (v : ℤ). v *ℤ rest_for p x t k q at_x) (over_is t b q))
 
   value_row : (k : ℕ) → x.basic k ≡ true → spread p x t at_x k ≡ t.factor k q *ℤ at_x q +ℤ rest_for p x t k q at_x
   value_row k e = spread_at_basic p x t at_x k e ∙ sum_before p x t k q at_x hq eq

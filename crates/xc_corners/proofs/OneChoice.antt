@@ -5,7 +5,7 @@ use Rattle.std.proofs.lemmas.Bool.{cases_order}
 use Rattle.xc_model.specs.Parts.{WholeParts}
 use Rattle.xc_model.proofs.Integers.{ring, scale_lt, scale_le}
 use Rattle.xc_model.proofs.Pairs.{same_pairs}
-use Rattle.xc_corners.specs.Choices.{Leaves, Helps, CanEnter, Enters, exchanged, Exchange}
+use Rattle.xc_corners.specs.Choices.{Leaves, Helps, CanEnter, Enters, corner_after_exchange, Exchange}
 use Rattle.xc_corners.specs.Corners.{variables, low_bound, high_bound, Corner, Factors, IsSolvedForm, spread, value, IsWithin, IsOutside}
 use Rattle.xc_corners.specs.Pairs.{◌≺◌, ◌≼◌, times}
 use Rattle.xc_corners.specs.Problems.{WholeProblem, IsWholeProblem}
@@ -101,7 +101,7 @@ one_leaving p h x s t a c b d f g k l =
 
 -- a corner has at most one choice and one next corner
 pub one_next : (p : WholeProblem) → IsWholeProblem p → (x : Corner) (b q d r : ℕ) (y z : Corner) → Exchange p x b q y → Exchange p x d r z → (b ≡ d) × (q ≡ r) × (y ≡ z)
-one_next p h x b q d r y z e f = (same_b, same_q, e.next ∙ (λ i. exchanged p x (same_side i) (same_b i) (same_q i)) ∙ sym f.next)
+one_next p h x b q d r y z e f = (same_b, same_q, e.next ∙ (λ i. corner_after_exchange p x (same_side i) (same_b i) (same_q i)) ∙ sym f.next)
   where
     leaving : (e.above ≡ f.above) × (b ≡ d)
     leaving = one_leaving p h x e.factors f.factors e.above f.above b d e.solved f.solved e.leaves f.leaves

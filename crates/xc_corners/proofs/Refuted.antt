@@ -9,10 +9,10 @@ use Rattle.xc_model.specs.Parts.{WholeParts}
 use Rattle.xc_model.proofs.Integers.{ring}
 use Rattle.xc_model.proofs.Pairs.{pair_cases}
 use Rattle.xc_corners.specs.Choices.{Helps, IsConflict}
-use Rattle.xc_corners.specs.Conflicts.{turned, multiplier, end_of, combined, left_over, nothing, Refutes}
+use Rattle.xc_corners.specs.Conflicts.{opposite_if, multiplier, end_of, whole_coefficient, whole_constant, Refutes}
 use Rattle.xc_corners.specs.Corners.{variables, AddUp, Corner, Factors, sum_for, IsSolvedForm, low_bound, high_bound, bound, value, IsOutside}
 use Rattle.xc_corners.specs.Operations.{passed_bound}
-use Rattle.xc_corners.specs.Pairs.{◌≺◌, times, sum_below}
+use Rattle.xc_corners.specs.Pairs.{◌≺◌, times, sum_below, zero_pair}
 use Rattle.xc_corners.specs.Problems.{WholeProblem, IsWholeProblem, total, unit_at, row_at, low_pair, high_pair, zero_range}
 use Rattle.xc_corners.proofs.NeverBack.{at_most, at_least}
 use Rattle.xc_corners.proofs.Sums.{sum_same, sum_scale, sum_more, sum_at, sum_of_zeros, without}
@@ -24,7 +24,7 @@ abbrev sign_of : Bool → ℤ
 sign_of false = pos 1
 sign_of true = negsuc 0
 
-turned_is : (a : Bool) (f : ℤ) → turned a f ≡ sign_of a *ℤ f
+turned_is : (a : Bool) (f : ℤ) → opposite_if a f ≡ sign_of a *ℤ f
 turned_is false f = omega (arith, ints)
 turned_is true f = omega (arith, ints)
 
@@ -106,8 +106,8 @@ unit_adds_up p h j i k =
     turned_product c d = simp ring
 
 pub coefficient_zero : (p : WholeProblem) (x : Corner) (t : Factors) (a : Bool) (b j : ℕ) → IsWholeProblem p → IsSolvedForm p x t → b < variables p → x.basic b ≡ true → j < length p.ranges
-    → combined p (multiplier x t a b) j ≡ pos 0
-unfolding combined variables
+    → whole_coefficient p (multiplier x t a b) j ≡ pos 0
+unfolding whole_coefficient variables
 coefficient_zero p x t a b j h f k e l =
     let m : pos t.over *ℤ range_unit p j b ≡ sum_for p x t b (range_unit p j) = f.sums _ (unit_adds_up p h j) b k e in
     let ranges : sum_below (length p.ranges) (λ k. multiplier x t a b k *ℤ range_unit p j k) ≡ pos p.scale *ℤ multiplier x t a b j =
@@ -143,11 +143,11 @@ brought_side c false true f low high n = end_high (neg_ℤ (pos 1 *ℤ f)) low h
 brought_side c true false f low high n = end_low (neg_ℤ (negsuc 0 *ℤ f)) low high c (omega (arith, ints, at_least f n)) ∙ twice_neg (negsuc 0) f (c low)
 brought_side c true true f low high n = end_high (neg_ℤ (negsuc 0 *ℤ f)) low high c (omega (arith, ints, at_most f n)) ∙ twice_neg (negsuc 0) f (c high)
 
-pub low_past : (p : WholeProblem) (j : ℕ) → length p.ranges ≤ j → low_bound p j ≡ nothing
+pub low_past : (p : WholeProblem) (j : ℕ) → length p.ranges ≤ j → low_bound p j ≡ zero_pair
 unfolding low_bound
 low_past p j h = ap (λ (g : Interval ℤ). low_pair p.unit g.low) (get_or_past p.ranges j zero_range h)
 
-pub high_past : (p : WholeProblem) (j : ℕ) → length p.ranges ≤ j → high_bound p j ≡ nothing
+pub high_past : (p : WholeProblem) (j : ℕ) → length p.ranges ≤ j → high_bound p j ≡ zero_pair
 unfolding high_bound
 high_past p j h = ap (λ (g : Interval ℤ). high_pair p.unit g.high) (get_or_past p.ranges j zero_range h)
 
@@ -194,15 +194,15 @@ module _ (p : WholeProblem) (x : Corner) (t : Factors) (a : Bool) (b : ℕ) (k :
       go j l (inr d) false e = rw (ne_eqb j b d, brought_other j l d e, e) refl
 
   -- the sum over the ranges is that over all variables, since the bounds of a row are 0
-  brought_ranges : c nothing ≡ pos 0 → sum_below (length p.ranges) brought_at ≡ sign_of a *ℤ (sum_for p x t b (λ j. c (bound p x j)) -ℤ pos t.over *ℤ c (passed_bound p a b))
+  brought_ranges : c zero_pair ≡ pos 0 → sum_below (length p.ranges) brought_at ≡ sign_of a *ℤ (sum_for p x t b (λ j. c (bound p x j)) -ℤ pos t.over *ℤ c (passed_bound p a b))
   unfolding variables
-  brought_ranges z = sym (sum_more (length p.ranges) (length p.rows) brought_at (λ j h l. rw (low_past p j h, high_past p j h, end_same (multiplier x t a b j) nothing, z) (no_part (multiplier x t a b j)))) ∙ brought_sum
+  brought_ranges z = sym (sum_more (length p.ranges) (length p.rows) brought_at (λ j h l. rw (low_past p j h, high_past p j h, end_same (multiplier x t a b j) zero_pair, z) (no_part (multiplier x t a b j)))) ∙ brought_sum
     where
       no_part : (m : ℤ) → neg_ℤ m *ℤ pos 0 ≡ pos 0
       no_part m = omega (arith, ints)
 
 past_signed : (s : Bool) (r l e f : ℤ) → ((s ≡ false) × ((record { real = r; tiny = e }) ≺ (record { real = l; tiny = f }))) ⊎ ((s ≡ true) × ((record { real = l; tiny = f }) ≺ (record { real = r; tiny = e })))
-    → (record { real = sign_of s *ℤ (r -ℤ l); tiny = sign_of s *ℤ (e -ℤ f) }) ≺ nothing
+    → (record { real = sign_of s *ℤ (r -ℤ l); tiny = sign_of s *ℤ (e -ℤ f) }) ≺ zero_pair
 past_signed s r l e f (inl (q, inl h)) = rw q (inl (simp ring (omega (arith, ints))))
 past_signed s r l e f (inl (q, inr h)) = rw q (inr (simp ring (omega (arith, ints, h.0)), simp ring (omega (arith, ints, h.1))))
 past_signed s r l e f (inr (q, inl h)) = rw q (inl (simp ring (omega (arith, ints))))
@@ -213,8 +213,8 @@ module _ (p : WholeProblem) (x : Corner) (t : Factors) (a : Bool) (b : ℕ) (k :
   outside false h = inl (refl, h)
   outside true h = inr (refl, h)
 
-  left_over_is : left_over p (multiplier x t a b) ≡ record { real = sign_of a *ℤ ((value p x t b).real -ℤ pos t.over *ℤ (passed_bound p a b).real); tiny = sign_of a *ℤ ((value p x t b).tiny -ℤ pos t.over *ℤ (passed_bound p a b).tiny) }
-  unfolding left_over value
+  left_over_is : whole_constant p (multiplier x t a b) ≡ record { real = sign_of a *ℤ ((value p x t b).real -ℤ pos t.over *ℤ (passed_bound p a b).real); tiny = sign_of a *ℤ ((value p x t b).tiny -ℤ pos t.over *ℤ (passed_bound p a b).tiny) }
+  unfolding whole_constant value
   left_over_is = λ i. record {
     real = (brought_ranges p x t a b k (λ v. v.real) refl ∙ ap (λ (v : ℤ). sign_of a *ℤ (v -ℤ pos t.over *ℤ (passed_bound p a b).real)) (sym (spread_at_basic p x t (λ j. (bound p x j).real) b k.leaves.basic))) i;
     tiny = (brought_ranges p x t a b k (λ v. v.tiny) refl ∙ ap (λ (v : ℤ). sign_of a *ℤ (v -ℤ pos t.over *ℤ (passed_bound p a b).tiny)) (sym (spread_at_basic p x t (λ j. (bound p x j).tiny) b k.leaves.basic))) i;

@@ -11,10 +11,10 @@ use Rattle.xc_model.proofs.Numbers.{den_positive}
 use Rattle.xc_model.proofs.NumbersOver.{over_number, number_over-same, neg_number, sum_number, quotient_number}
 use Rattle.xc_model.proofs.Rescaled.{over_scaled}
 use Rattle.xc_corners.specs.Corners.{Corner, Factors, IsSolvedForm, value}
-use Rattle.xc_corners.specs.Ending.{margin_taken, IsTight, IsMargin, IsQuotientAt, IsLeastQuotient, IsHalf, IsSmallNumber}
+use Rattle.xc_corners.specs.Ending.{margin_operation, IsTight, IsMargin, IsQuotientAt, IsLeastQuotient, IsHalf, IsSmallNumber}
 use Rattle.xc_corners.specs.Operations.{Gives, part, passed_bound}
 use Rattle.xc_corners.specs.Problems.{WholeProblem}
-use Rattle.xc_corners.specs.WholeNumbers.{whole}
+use Rattle.xc_corners.specs.WholeNumbers.{whole_problem}
 use Rattle.xc_corners.specs.declared.problem.Problem.{Problem}
 
 -- what the subtraction of a bound and a value gives, in whole numbers
@@ -91,7 +91,7 @@ module _ (p : WholeProblem) (x : Corner) (t : Factors) (solved : IsSolvedForm p 
       value = over_number m.value _ _ m.is_value
 
       go : (s k : Bool) {l v : ℤ} → IsNumberOver (fraction_of m.limit) l (t.over * p.unit) → IsNumberOver (fraction_of m.value) v (t.over * p.unit)
-          → Gives Sub (margin_taken s k m.limit m.value).left (margin_taken s k m.limit m.value).right g
+          → Gives Sub (margin_operation s k m.limit m.value).left (margin_operation s k m.limit m.value).right g
           → IsNumberOver (fraction_of g) (margin s k l v) (t.over * p.unit)
       go false false a b e = number_over-same _ (fraction_of g) _ _ e (sum_number _ _ _ _ _ b (neg_number _ _ _ a))
       go false true a b e = number_over-same _ (fraction_of g) _ _ e (sum_number _ _ _ _ _ a (neg_number _ _ _ b))
@@ -141,5 +141,5 @@ module _ (p : WholeProblem) (x : Corner) (t : Factors) (solved : IsSolvedForm p 
       let twice : pos 0 <ℤ (d *ℤ pos 2) = mul_positive d (pos 2) (den_positive (fraction_of h.least)) (omega (arith, ints)) in
       positive_from s.num (pos (unsigned_abs s.den)) h.least.num (d *ℤ pos 2) (den_positive (fraction_of s)) (least_positive h.least h.is_least) twice (half_is s h)
 
-pub small_positive : (problem : Problem) (x : Corner) (t : Factors) → IsSolvedForm (whole problem) x t → (s : Ratio) → IsSmallNumber (whole problem) x t s → pos 0 <ℤ s.num
-small_positive problem x t solved s h = small_is_positive (whole problem) x t solved s h
+pub small_positive : (problem : Problem) (x : Corner) (t : Factors) → IsSolvedForm (whole_problem problem) x t → (s : Ratio) → IsSmallNumber (whole_problem problem) x t s → pos 0 <ℤ s.num
+small_positive problem x t solved s h = small_is_positive (whole_problem problem) x t solved s h

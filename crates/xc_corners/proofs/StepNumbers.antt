@@ -8,11 +8,11 @@ use Rattle.xc_model.specs.Ratio.{Ratio, fraction_of, IsOver}
 use Rattle.xc_model.proofs.Integers.{ring, unsigned_abs_some}
 use Rattle.xc_model.proofs.NumbersOver.{over_number, number_over, number_over-same, neg_number, sum_number, quotient_number}
 use Rattle.xc_model.proofs.Rescaled.{over_same_number, over_same_den, over_scaled}
-use Rattle.xc_corners.specs.Choices.{exchanged}
+use Rattle.xc_corners.specs.Choices.{corner_after_exchange}
 use Rattle.xc_corners.specs.Corners.{variables, Corner, Factors, IsSolvedForm, value, bound, spread}
 use Rattle.xc_corners.specs.Operations.{Gives, IsValuePart, IsGap, IsStep, IsMove, part, passed_bound}
 use Rattle.xc_corners.specs.Problems.{WholeProblem}
-use Rattle.xc_corners.specs.Tables.{pivoted, sign}
+use Rattle.xc_corners.specs.Tables.{factors_after_exchange, sign}
 use Rattle.xc_corners.proofs.ExchangeNumbers.{sum_gives, product_gives}
 use Rattle.xc_corners.proofs.NextValues.{next_at, next_q, next_basic, next_b, next_other, at_x, at_y}
 use Rattle.xc_corners.proofs.Pivoting.{unsigned_abs-sign}
@@ -83,17 +83,17 @@ module _ (p : WholeProblem) (x : Corner) (t : Factors) (solved : IsSolvedForm p 
   value_over j v h = over_same_den v _ _ _ (over_scaled v _ (t.over * p.unit) (unsigned_abs (t.factor b q)) (unsigned_abs_some _ some) h) (regroup (unsigned_abs (t.factor b q)) t.over p.unit)
 
   abbrev next : ℕ → ℤ
-  next j = part c (value p (exchanged p x above b q) (pivoted t b q) j)
+  next j = part c (value p (corner_after_exchange p x above b q) (factors_after_exchange t b q) j)
 
   value_b : part c (value p x t b) ≡ spread p x t (λ k. part c (bound p x k)) b
   value_b = value_part p x t c b
 
   next_is : (j : ℕ) → next j ≡ next_at p x t solved above b q hb hq eb eq some (part c) j
   unfolding next_at at_y
-  next_is j = value_part p (exchanged p x above b q) (pivoted t b q) c j
+  next_is j = value_part p (corner_after_exchange p x above b q) (factors_after_exchange t b q) c j
 
-  pub entering_exact : (v s r : Ratio) → IsValuePart p x t c q v → IsStep p x t above b q c s → Gives Add v s r → IsValuePart p (exchanged p x above b q) (pivoted t b q) c q r
-  unfolding pivoted at_x
+  pub entering_exact : (v s r : Ratio) → IsValuePart p x t c q v → IsStep p x t above b q c s → Gives Add v s r → IsValuePart p (corner_after_exchange p x above b q) (factors_after_exchange t b q) c q r
+  unfolding factors_after_exchange at_x
   entering_exact v s r h o g = over_same_number r _ _ _ (sum_gives v s r _ _ _ (value_over q v h) (step_over s o) g)
       (ap (λ (z : ℤ). pos (unsigned_abs (t.factor b q)) *ℤ z +ℤ sign (t.factor b q) *ℤ (pos t.over *ℤ gap)) (value_part p x t c q ∙ spread_at_other p x t (λ k. part c (bound p x k)) q eq)
       ∙ entering_cross (sign (t.factor b q)) (t.factor b q) (pos t.over) (pos (unsigned_abs (t.factor b q))) (part c (bound p x q)) gap size
@@ -101,21 +101,21 @@ module _ (p : WholeProblem) (x : Corner) (t : Factors) (solved : IsSolvedForm p 
       ∙ sym (next_q p x t solved above b q hb hq eb eq some (part c)) ∙ sym (next_is q))
 
   pub basic_exact : (k : ℕ) (v m r : Ratio) → k < variables p → x.basic k ≡ true → IsValuePart p x t c k v → IsMove p x t above b q k c m → Gives Add v m r
-      → IsValuePart p (exchanged p x above b q) (pivoted t b q) c k r
-  unfolding pivoted at_x
+      → IsValuePart p (corner_after_exchange p x above b q) (factors_after_exchange t b q) c k r
+  unfolding factors_after_exchange at_x
   basic_exact k v m r hk ek h o g = over_same_number r _ _ _ (sum_gives v m r _ _ _ (value_over k v h) (move_over k m o) g)
       (basic_cross (sign (t.factor b q)) (t.factor b q) (pos (unsigned_abs (t.factor b q))) (part c (value p x t k)) (t.factor k q) gap size
       ∙ ap (λ (z : ℤ). sign (t.factor b q) *ℤ (t.factor b q *ℤ z +ℤ t.factor k q *ℤ gap)) (value_part p x t c k)
       ∙ ap (λ (z : ℤ). sign (t.factor b q) *ℤ (t.factor b q *ℤ spread p x t (λ j. part c (bound p x j)) k +ℤ t.factor k q *ℤ (pos t.over *ℤ part c (passed_bound p above b) -ℤ z))) value_b
       ∙ sym (next_basic p x t solved above b q hb hq eb eq some (part c) k hk ek) ∙ sym (next_is k))
 
-  pub leaving_exact : (f : Ratio) → IsOver f (part c (passed_bound p above b)) p.unit → IsValuePart p (exchanged p x above b q) (pivoted t b q) c b f
-  unfolding pivoted
+  pub leaving_exact : (f : Ratio) → IsOver f (part c (passed_bound p above b)) p.unit → IsValuePart p (corner_after_exchange p x above b q) (factors_after_exchange t b q) c b f
+  unfolding factors_after_exchange
   leaving_exact f h = over_same_number f _ _ _ (over_scaled f _ p.unit (unsigned_abs (t.factor b q) * t.over) new_positive h)
       (sym (next_b p x t solved above b q hb hq eb eq some (part c)) ∙ sym (next_is b))
 
-  pub other_exact : (j : ℕ) (v : Ratio) → x.basic j ≡ false → (j ≡ q → ⊥) → IsValuePart p x t c j v → IsValuePart p (exchanged p x above b q) (pivoted t b q) c j v
-  unfolding pivoted at_x
+  pub other_exact : (j : ℕ) (v : Ratio) → x.basic j ≡ false → (j ≡ q → ⊥) → IsValuePart p x t c j v → IsValuePart p (corner_after_exchange p x above b q) (factors_after_exchange t b q) c j v
+  unfolding factors_after_exchange at_x
   other_exact j v e n h = over_same_number v _ _ _ (value_over j v h)
       (ap (λ (z : ℤ). pos (unsigned_abs (t.factor b q)) *ℤ z) (value_part p x t c j ∙ spread_at_other p x t (λ k. part c (bound p x k)) j e)
       ∙ other_cross (pos (unsigned_abs (t.factor b q))) (pos t.over) (part c (bound p x j))

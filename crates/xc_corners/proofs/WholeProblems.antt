@@ -17,7 +17,7 @@ use Rattle.xc_model.proofs.NumbersOver.{over_number, below_number, equal_number}
 use Rattle.xc_model.proofs.Orders.{number_total}
 use Rattle.xc_corners.specs.Pairs.{◌≼◌}
 use Rattle.xc_corners.specs.Problems.{IsWholeProblem, IsProblem, low_pair, high_pair}
-use Rattle.xc_corners.specs.WholeNumbers.{whole, common, times_common, ends_of, weights_of}
+use Rattle.xc_corners.specs.WholeNumbers.{whole_problem, product_of_denominators, times_common, ends_of, weights_of}
 use Rattle.xc_corners.specs.declared.problem.Problem.{Problem}
 use Rattle.xc_corners.proofs.CommonDenominators.{Divides, common_positive, is_times_common, ends_divide}
 
@@ -56,12 +56,12 @@ module _ (d : ℕ) (p : 0 < d) where
 row_named : (n m d : ℕ) (row : List (ℕ × Ratio)) → n ≡ m → All (λ (entry : ℕ × Ratio). entry.0 < n) row → All (λ (entry : ℕ × ℤ). entry.0 < m) (map (λ entry. (entry.0, times_common d entry.1)) row)
 row_named n m d row e a = All-map (λ (entry : ℕ × ℤ). entry.0 < m) (λ (entry : ℕ × Ratio). (entry.0, times_common d entry.1)) row (λ j none h. subst (λ k. (get_or row j none).0 < k) e (a j none h))
 
-pub whole_too : (problem : Problem) → IsProblem problem → IsWholeProblem (whole problem)
-unfolding whole
+pub whole_too : (problem : Problem) → IsProblem problem → IsWholeProblem (whole_problem problem)
+unfolding whole_problem
 whole_too problem h =
-    let d = common (ends_of problem.ranges) in
+    let d = product_of_denominators (ends_of problem.ranges) in
     let p = common_positive (ends_of problem.ranges) in
-    let e = common (weights_of problem.rows) in
+    let e = product_of_denominators (weights_of problem.rows) in
     let count : length problem.ranges ≡ length (map (between (times_common d)) problem.ranges) = sym (length-map problem.ranges (between (times_common d))) in
     record {
       unit = p;

@@ -14,9 +14,9 @@ use Rattle.xc_corners.specs.declared.multipliers.Multipliers.{Multipliers}
 use Rattle.xc_corners.specs.declared.problem.Problem.{Problem}
 
 -- the sum of factor times number over what is listed
-abbrev pub weighed : List (ℕ × Ratio) → (ℕ → Fraction) → Fraction
-weighed [] z = whole (pos 0)
-weighed (line ∷ lines) z = sum_of (product_of (fraction_of line.1) (z line.0)) (weighed lines z)
+abbrev pub sum_over_lines : List (ℕ × Ratio) → (ℕ → Fraction) → Fraction
+sum_over_lines [] z = whole (pos 0)
+sum_over_lines (line ∷ lines) z = sum_of (product_of (fraction_of line.1) (z line.0)) (sum_over_lines lines z)
 
 -- value j; 0 where there is none
 abbrev pub value_at : List Ratio → ℕ → Fraction
@@ -26,7 +26,7 @@ value_at values j = option_map_or (λ value. fraction_of value) (slice_get value
 pub record Solves (problem : Problem) (values : List Ratio) : Type 0 where
   pub each : length values ≡ length problem.ranges
   pub within : (j : ℕ) (range : Interval Ratio) → slice_get problem.ranges j ≡ Some range → HasNumber (numbers_of range) (value_at values j)
-  pub met : (i : ℕ) → i < length problem.rows → (weighed (entries_of problem i) (value_at values)).num ≡ pos 0
+  pub met : (i : ℕ) → i < length problem.rows → (sum_over_lines (entries_of problem i) (value_at values)).num ≡ pos 0
 
 -- ---- Multipliers add up to a combination: the sum of multiplier times (value - low end) over the low ends, of multiplier times
 -- (high end - value) over the high ends, and of multiplier times the sum of a row over the rows. Values that solve the problem make
@@ -36,27 +36,29 @@ pub record Solves (problem : Problem) (values : List Ratio) : Type 0 where
 abbrev pub one_at : ℕ → ℕ → Fraction
 one_at j k = if k == j then whole (pos 1) else whole (pos 0)
 
--- the ends of range j
+-- the low end of range j; 0 where there is none
 abbrev pub low_at : Problem → ℕ → Fraction
 low_at problem j = option_map_or (λ range. fraction_of (value_of range.low)) (slice_get problem.ranges j) (whole (pos 0))
 
+-- and its high end
 abbrev pub high_at : Problem → ℕ → Fraction
 high_at problem j = option_map_or (λ range. fraction_of (value_of range.high)) (slice_get problem.ranges j) (whole (pos 0))
 
--- and whether they are open
+-- whether the low end of range j is open
 abbrev pub is_low_open : Problem → ℕ → Bool
 is_low_open problem j = option_map_or (λ range. is_open range.low) (slice_get problem.ranges j) false
 
+-- and its high end
 abbrev pub is_high_open : Problem → ℕ → Bool
 is_high_open problem j = option_map_or (λ range. is_open range.high) (slice_get problem.ranges j) false
 
 -- the coefficient of the value of range j in the combination
 abbrev pub coefficient : Problem → Multipliers → ℕ → Fraction
-coefficient problem m j = sum_of (weighed m.rows (λ i. weighed (entries_of problem i) (one_at j))) (difference_of (weighed m.lows (one_at j)) (weighed m.highs (one_at j)))
+coefficient problem m j = sum_of (sum_over_lines m.rows (λ i. sum_over_lines (entries_of problem i) (one_at j))) (difference_of (sum_over_lines m.lows (one_at j)) (sum_over_lines m.highs (one_at j)))
 
 -- its constant
 abbrev pub constant : Problem → Multipliers → Fraction
-constant problem m = difference_of (weighed m.highs (high_at problem)) (weighed m.lows (low_at problem))
+constant problem m = difference_of (sum_over_lines m.highs (high_at problem)) (sum_over_lines m.lows (low_at problem))
 
 -- some listed end is open
 abbrev pub lists_open : Problem → Multipliers → Bool

@@ -36,8 +36,8 @@ abbrev pub is_same_pair : WholeParts → WholeParts → Bool
 is_same_pair a b = int_eq a.real b.real && int_eq a.tiny b.tiny
 
 -- q in place of b, and b on the side of the bound that it passed, or on the low side where its bounds are equal
-unfoldable pub exchanged : WholeProblem → Corner → Bool → ℕ → ℕ → Corner
-exchanged p x above b q = record {
+unfoldable pub corner_after_exchange : WholeProblem → Corner → Bool → ℕ → ℕ → Corner
+corner_after_exchange p x above b q = record {
   basic = λ j. if j == q then true else (if j == b then false else x.basic j);
   high = λ j. if j == q then false else (if j == b then above && not (is_same_pair (low_bound p b) (high_bound p b)) else x.high j);
 }
@@ -49,7 +49,7 @@ pub record Exchange (p : WholeProblem) (x : Corner) (b q : ℕ) (y : Corner) : T
   pub above : Bool
   pub leaves : Leaves p x factors above b
   pub enters : Enters p x factors above b q
-  pub next : y ≡ exchanged p x above b q
+  pub next : y ≡ corner_after_exchange p x above b q
 
 -- n exchanges lead from x to y
 abbrev pub Exchanges : WholeProblem → ℕ → Corner → Corner → Type 0
@@ -62,12 +62,12 @@ Moves p r zero x y = x ≡ y
 Moves p r (suc n) x y = (z : Corner) × (b : ℕ) × (q : ℕ) × Exchange p x b q z × (b < r) × (q < r) × Moves p r n z y
 
 -- the first corner: the variables of rows are basic, and no variable is on its high side
-unfoldable pub first : WholeProblem → Corner
-first p = record { basic = λ j. nat_le (length p.ranges) j && nat_lt j (variables p); high = λ j. false }
+unfoldable pub first_corner : WholeProblem → Corner
+first_corner p = record { basic = λ j. nat_le (length p.ranges) j && nat_lt j (variables p); high = λ j. false }
 
 -- the run: x is reached from the first corner by n exchanges
 abbrev pub IsReachedBy : WholeProblem → ℕ → Corner → Type 0
-IsReachedBy p n x = Exchanges p n (first p) x
+IsReachedBy p n x = Exchanges p n (first_corner p) x
 
 -- x stands in the run
 abbrev pub IsReached : WholeProblem → Corner → Type 0

@@ -14,10 +14,11 @@ variables p = length p.ranges + length p.rows
 abbrev pub range_of : WholeProblem → ℕ → Interval ℤ
 range_of p j = slice_index_or p.ranges j zero_range
 
--- the bounds of a variable, over the problem's unit
+-- the low bound of a variable, over the problem's unit
 unfoldable pub low_bound : WholeProblem → ℕ → WholeParts
 low_bound p j = low_pair p.unit (range_of p j).low
 
+-- and its high bound
 unfoldable pub high_bound : WholeProblem → ℕ → WholeParts
 high_bound p j = high_pair p.unit (range_of p j).high
 

@@ -16,11 +16,11 @@ IsTightAt false low a = (low.real <ℤ a.real) × (a.tiny <ℤ low.tiny)
 IsTightAt true high a = (a.real <ℤ high.real) × (high.tiny <ℤ a.tiny)
 
 -- the subtraction of a bound and a value that gives what is positive there: of the real parts (false), or the tiny ones (true)
-abbrev pub margin_taken : Bool → Bool → Ratio → Ratio → Wide
-margin_taken false false limit value = operation Sub value limit
-margin_taken false true limit value = operation Sub limit value
-margin_taken true false limit value = operation Sub limit value
-margin_taken true true limit value = operation Sub value limit
+abbrev pub margin_operation : Bool → Bool → Ratio → Ratio → Wide
+margin_operation false false limit value = operation Sub value limit
+margin_operation false true limit value = operation Sub limit value
+margin_operation true false limit value = operation Sub limit value
+margin_operation true true limit value = operation Sub value limit
 
 -- r is 2
 abbrev pub IsTwo : Ratio → Type 0
@@ -41,7 +41,7 @@ module _ (p : WholeProblem) (x : Corner) (t : Factors) where
     pub is_limit : IsLimitPart high j c limit
     pub value : Ratio
     pub is_value : IsValuePart p x t c j value
-    pub gives : Gives Sub (margin_taken high c limit value).left (margin_taken high c limit value).right g
+    pub gives : Gives Sub (margin_operation high c limit value).left (margin_operation high c limit value).right g
 
   -- r is the margin of the real parts over that of the tiny ones: the small number has to be less
   pub record IsQuotientAt (high : Bool) (j : ℕ) (r : Ratio) : Type 0 where
@@ -93,7 +93,7 @@ module _ (p : WholeProblem) (x : Corner) (t : Factors) where
 
   -- the operations that give the quotient of range j at a bound
   pub data StandsInQuotient (high : Bool) (j : ℕ) (w : Wide) : Type 0 where
-    margin : (c : Bool) (l v : Ratio) → IsLimitPart high j c l → IsValuePart p x t c j v → w ≡ margin_taken high c l v → StandsInQuotient high j w
+    margin : (c : Bool) (l v : Ratio) → IsLimitPart high j c l → IsValuePart p x t c j v → w ≡ margin_operation high c l v → StandsInQuotient high j w
     divided : (f g : Ratio) → IsMargin high j false f → IsMargin high j true g → w ≡ operation Div f g → StandsInQuotient high j w
 
   -- the operations that give the small number

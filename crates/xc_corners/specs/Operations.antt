@@ -7,10 +7,10 @@ use Rattle.xc_frac.specs.declared.wide.Wide.{Wide}
 use Rattle.xc_model.specs.Fraction.{SameNumber, neg_of, sum_of, difference_of, product_of, IsQuotient}
 use Rattle.xc_model.specs.Parts.{WholeParts}
 use Rattle.xc_model.specs.Ratio.{Ratio, fraction_of, IsOver}
-use Rattle.xc_corners.specs.Choices.{Exchange, first}
+use Rattle.xc_corners.specs.Choices.{Exchange, first_corner}
 use Rattle.xc_corners.specs.Corners.{variables, low_bound, high_bound, Corner, Factors, value}
 use Rattle.xc_corners.specs.Problems.{WholeProblem}
-use Rattle.xc_corners.specs.WholeNumbers.{whole}
+use Rattle.xc_corners.specs.WholeNumbers.{whole_problem}
 use Rattle.xc_corners.specs.declared.problem.Problem.{Problem}
 
 -- the operation on f and g
@@ -28,10 +28,11 @@ Gives Div f g r = IsQuotient (fraction_of r) (fraction_of f) (fraction_of g)
 abbrev pub IsNegativeOf : Ratio → Ratio → Type 0
 IsNegativeOf f r = SameNumber (fraction_of r) (neg_of (fraction_of f))
 
--- r is 0, or 1
+-- r is 0
 abbrev pub IsZero : Ratio → Type 0
 IsZero r = IsOver r (pos 0) 1
 
+-- r is 1
 abbrev pub IsOne : Ratio → Type 0
 IsOne r = IsOver r (pos 1) 1
 
@@ -99,7 +100,7 @@ part true a = a.tiny
 
 -- f is a part of the low bound of range j
 abbrev pub IsLowPart : Problem → Bool → ℕ → Ratio → Type 0
-IsLowPart problem c j f = IsOver f (part c (low_bound (whole problem) j)) (whole problem).unit
+IsLowPart problem c j f = IsOver f (part c (low_bound (whole_problem problem) j)) (whole_problem problem).unit
 
 -- m is the factor of range j in the sum of row i, times a part of its low bound
 pub record IsLowProduct (problem : Problem) (i : ℕ) (c : Bool) (j : ℕ) (m : Ratio) : Type 0 where
@@ -171,19 +172,20 @@ pub data StandsInStep (p : WholeProblem) (x : Corner) (t : Factors) (above : Boo
 
 -- ---- All of them.
 
--- the variables that are basic, and those that are not
+-- variable j is basic
 abbrev pub IsBasic : WholeProblem → Corner → ℕ → Type 0
 IsBasic p x j = (j < variables p) × (x.basic j ≡ true)
 
+-- variable j is not
 abbrev pub IsOther : WholeProblem → Corner → ℕ → Type 0
 IsOther p x j = (j < variables p) × (x.basic j ≡ false)
 
 -- w is an operation that stands at corner x: of its first factors and values, or of the exchange that follows it
 pub data StandsAt (problem : Problem) (x : Corner) (w : Wide) : Type 0 where
-  at_first : x ≡ first (whole problem) → StandsAtFirst problem w → StandsAt problem x w
-  in_exchange : (b q : ℕ) (y : Corner) (e : Exchange (whole problem) x b q y) → StandsInExchange (IsBasic (whole problem) x) (IsOther (whole problem) x) (IsFactor e.factors) b q w
+  at_first : x ≡ first_corner (whole_problem problem) → StandsAtFirst problem w → StandsAt problem x w
+  in_exchange : (b q : ℕ) (y : Corner) (e : Exchange (whole_problem problem) x b q y) → StandsInExchange (IsBasic (whole_problem problem) x) (IsOther (whole_problem problem) x) (IsFactor e.factors) b q w
       → StandsAt problem x w
-  in_step : (b q : ℕ) (y : Corner) (e : Exchange (whole problem) x b q y) → StandsInStep (whole problem) x e.factors e.above b q w → StandsAt problem x w
+  in_step : (b q : ℕ) (y : Corner) (e : Exchange (whole_problem problem) x b q y) → StandsInStep (whole_problem problem) x e.factors e.above b q w → StandsAt problem x w
 
 -- w is an operation that stands at corner x and passes. Its operands are fractions, and so is all on which they rest
 pub record PassesAt (problem : Problem) (x : Corner) (w : Wide) : Type 0 where

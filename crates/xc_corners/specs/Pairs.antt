@@ -19,3 +19,7 @@ times t a = record { real = t *ℤ a.real; tiny = t *ℤ a.tiny }
 abbrev pub sum_below : ℕ → (ℕ → ℤ) → ℤ
 sum_below zero f = pos 0
 sum_below (suc n) f = sum_below n f +ℤ f n
+
+-- 0 in both parts
+abbrev pub zero_pair : WholeParts
+zero_pair = record { real = pos 0; tiny = pos 0 }

@@ -26,10 +26,11 @@ pub record WholeProblem : Type 0 where
   pub ranges : List (Interval ℤ)
   pub rows : List (List (ℕ × ℤ))
 
--- the bound that an end gives, over u: a closed end e is (e, 0), an open low end (e, 1) and an open high end (e, -1)
+-- the bound that a low end gives, over u: a closed end e is (e, 0), and an open one (e, 1)
 abbrev pub low_pair : ℕ → End ℤ → WholeParts
 low_pair u e = record { real = value_of e; tiny = if is_open e then pos u else pos 0 }
 
+-- and that of a high end: a closed end e is (e, 0), and an open one (e, -1)
 abbrev pub high_pair : ℕ → End ℤ → WholeParts
 high_pair u e = record { real = value_of e; tiny = if is_open e then neg_ℤ (pos u) else pos 0 }
 

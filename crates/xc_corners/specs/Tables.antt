@@ -13,8 +13,8 @@ unfoldable pub first_factors : WholeProblem → Factors
 first_factors p = record { factor = λ b j. total (row_at p (b - length p.ranges)) (unit_at j); over = p.scale }
 
 -- after the exchange of b and q: the sum for b solved for q, and put into the other sums
-unfoldable pub pivoted : Factors → ℕ → ℕ → Factors
-pivoted t b q = record {
+unfoldable pub factors_after_exchange : Factors → ℕ → ℕ → Factors
+factors_after_exchange t b q = record {
   factor = λ k j. sign (t.factor b q) *ℤ
       (if k == q
       then (if j == b then pos t.over *ℤ pos t.over else neg_ℤ (pos t.over *ℤ t.factor b j))

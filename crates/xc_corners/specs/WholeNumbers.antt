@@ -8,9 +8,9 @@ use Rattle.xc_corners.specs.Problems.{WholeProblem}
 use Rattle.xc_corners.specs.declared.problem.Problem.{Problem}
 
 -- the product of the denominators
-abbrev pub common : List Ratio → ℕ
-common [] = 1
-common (f ∷ fs) = unsigned_abs f.den * common fs
+abbrev pub product_of_denominators : List Ratio → ℕ
+product_of_denominators [] = 1
+product_of_denominators (f ∷ fs) = unsigned_abs f.den * product_of_denominators fs
 
 -- d times f, where d is a multiple of its denominator
 abbrev pub times_common : ℕ → Ratio → ℤ
@@ -27,10 +27,10 @@ weights_of [] = []
 weights_of (row ∷ rows) = map (λ entry. entry.1) row ++ weights_of rows
 
 -- ends over the product of their denominators, and weights over that of theirs
-unfoldable pub whole : Problem → WholeProblem
-whole problem = record {
-  unit = common (ends_of problem.ranges);
-  scale = common (weights_of problem.rows);
-  ranges = map (between (times_common (common (ends_of problem.ranges)))) problem.ranges;
-  rows = map (map (λ entry. (entry.0, times_common (common (weights_of problem.rows)) entry.1))) problem.rows;
+unfoldable pub whole_problem : Problem → WholeProblem
+whole_problem problem = record {
+  unit = product_of_denominators (ends_of problem.ranges);
+  scale = product_of_denominators (weights_of problem.rows);
+  ranges = map (between (times_common (product_of_denominators (ends_of problem.ranges)))) problem.ranges;
+  rows = map (map (λ entry. (entry.0, times_common (product_of_denominators (weights_of problem.rows)) entry.1))) problem.rows;
 }

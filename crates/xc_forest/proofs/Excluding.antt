@@ -6,7 +6,7 @@ use Rattle.std.proofs.lemmas.Nat.Gcd.{dvd_trans}
 use Rattle.std.proofs.Math.Nat.{mul-pos, dvd-mul_left, dvd-mul_right}
 use Prim.Native.Nat.{◌∣◌}
 use lib.IntN.{zero-*ℤ}
-use Rattle.xc_forest.specs.Forests.{AreRows, Contradicts, IsUnit, range_at, row_at, row_total, row_sum, turn, unit_at, points_of, sum_below, named_end, multiplier_at}
+use Rattle.xc_forest.specs.Forests.{AreRows, Contradicts, IsUnit, range_at, row_at, row_total, row_sum, number_with_sign, unit_at, points_of, sum_below, named_end, multiplier_at}
 use Rattle.xc_lists.specs.Members.{IsIn}
 use Rattle.xc_forest.specs.Laws.{Meets, ContradictionsExclude}
 use Rattle.xc_forest.specs.Steps.Scaled.{scale_of_pair, scale_of, whole_over}
@@ -69,9 +69,9 @@ by_weights : (n : ℕ) (row : List (ℕ × Bool)) (x : ℕ → ℤ) → ((p : �
 by_weights n [] x h = sym (none_below n _ (λ p l. zero-*ℤ (x p)))
 by_weights n (e ∷ row) x h =
     let i : row_sum row x ≡ sum_below n (λ p. row_sum row (unit_at p) *ℤ x p) = by_weights n row x (λ p k. h p (inr k)) in
-    let s : sum_below n (λ p. turn e.1 (unit_at p e.0) *ℤ x p) ≡ turn e.1 (unit_at e.0 e.0) *ℤ x e.0 = single_below n e.0 (λ p. turn e.1 (unit_at p e.0) *ℤ x p) (h e.0 (inl refl)) (λ p l m. rw (ne_eqb e.0 p (λ q. m (sym q))) (turn_none e.1 (x p))) in
-    let o : turn e.1 (unit_at e.0 e.0) *ℤ x e.0 ≡ turn e.1 (x e.0) = rw (eq-eqb e.0 e.0 refl) (turn_unit e.1 (x e.0)) in
-    let p : sum_below n (λ p. (turn e.1 (unit_at p e.0) +ℤ row_sum row (unit_at p)) *ℤ x p) ≡ sum_below n (λ p. turn e.1 (unit_at p e.0) *ℤ x p) +ℤ sum_below n (λ p. row_sum row (unit_at p) *ℤ x p) = same_below n _ _ (λ p k. add-mul (turn e.1 (unit_at p e.0)) (row_sum row (unit_at p)) (x p)) ∙ sum_plus n _ _ in
+    let s : sum_below n (λ p. number_with_sign e.1 (unit_at p e.0) *ℤ x p) ≡ number_with_sign e.1 (unit_at e.0 e.0) *ℤ x e.0 = single_below n e.0 (λ p. number_with_sign e.1 (unit_at p e.0) *ℤ x p) (h e.0 (inl refl)) (λ p l m. rw (ne_eqb e.0 p (λ q. m (sym q))) (turn_none e.1 (x p))) in
+    let o : number_with_sign e.1 (unit_at e.0 e.0) *ℤ x e.0 ≡ number_with_sign e.1 (x e.0) = rw (eq-eqb e.0 e.0 refl) (turn_unit e.1 (x e.0)) in
+    let p : sum_below n (λ p. (number_with_sign e.1 (unit_at p e.0) +ℤ row_sum row (unit_at p)) *ℤ x p) ≡ sum_below n (λ p. number_with_sign e.1 (unit_at p e.0) *ℤ x p) +ℤ sum_below n (λ p. row_sum row (unit_at p) *ℤ x p) = same_below n _ _ (λ p k. add-mul (number_with_sign e.1 (unit_at p e.0)) (row_sum row (unit_at p)) (x p)) ∙ sum_plus n _ _ in
     omega (arith, ints)
 
 -- where the coefficients cancel, values that meet the rows add up to 0 with the multipliers of their ends

@@ -3,7 +3,7 @@ use Rattle.std.proofs.Common.{◌≢◌, ◌≡◌, ℕ, zero, suc, ◌+◌, ◌
 use Rattle.std.proofs.lemmas.Int.{ints}
 use Rattle.std.proofs.lemmas.Bool.{cases_eq, eq-eqb, ne_eqb, false≢true}
 use lib.IntN.{zero-*ℤ}
-use Rattle.xc_forest.specs.Forests.{AreRows, row_at, row_sum, unit_at, points_of, turn, sum_below}
+use Rattle.xc_forest.specs.Forests.{AreRows, row_at, row_sum, unit_at, points_of, number_with_sign, sum_below}
 use Rattle.xc_lists.specs.Members.{IsIn, IsOnce}
 use Rattle.xc_forest.specs.Steps.Links.{is_row_of, weigh_of}
 use Rattle.xc_forest.specs.Steps.Vertices.{sum_over}
@@ -73,11 +73,11 @@ sum_plus : (vs : List ℕ) (f g : ℕ → ℤ) → sum_over vs (λ v. f v +ℤ g
 sum_plus [] f g = refl
 sum_plus (v ∷ vs) f g = let i : sum_over vs (λ v. f v +ℤ g v) ≡ sum_over vs f +ℤ sum_over vs g = sum_plus vs f g in omega (arith, ints)
 
-pub turn_unit : (b : Bool) (x : ℤ) → turn b (pos 1) *ℤ x ≡ turn b x
+pub turn_unit : (b : Bool) (x : ℤ) → number_with_sign b (pos 1) *ℤ x ≡ number_with_sign b x
 turn_unit false x = omega (arith, ints)
 turn_unit true x = omega (arith, ints)
 
-pub turn_none : (b : Bool) (x : ℤ) → turn b (pos 0) *ℤ x ≡ pos 0
+pub turn_none : (b : Bool) (x : ℤ) → number_with_sign b (pos 0) *ℤ x ≡ pos 0
 turn_none false x = zero-*ℤ x
 turn_none true x = zero-*ℤ x
 
@@ -85,9 +85,9 @@ pub row_by_weights : (vs : List ℕ) (es : List (ℕ × Bool)) (x : ℕ → ℤ)
 row_by_weights vs [] x d h = sym (sum_zero vs _ (λ v i. zero-*ℤ (x v)))
 row_by_weights vs (e ∷ es) x d h =
     let i : row_sum es x ≡ sum_over vs (λ v. row_sum es (unit_at v) *ℤ x v) = row_by_weights vs es x d (λ p k. h p (inr k)) in
-    let s : sum_over vs (λ v. turn e.1 (unit_at v e.0) *ℤ x v) ≡ turn e.1 (unit_at e.0 e.0) *ℤ x e.0 = sum_single vs e.0 (λ v. turn e.1 (unit_at v e.0) *ℤ x v) d (h e.0 (inl refl)) (λ v k m. rw (ne_eqb e.0 v (λ q. m (sym q))) (turn_none e.1 (x v))) in
-    let o : turn e.1 (unit_at e.0 e.0) *ℤ x e.0 ≡ turn e.1 (x e.0) = rw (eq-eqb e.0 e.0 refl) (turn_unit e.1 (x e.0)) in
-    let p : sum_over vs (λ v. (turn e.1 (unit_at v e.0) +ℤ row_sum es (unit_at v)) *ℤ x v) ≡ sum_over vs (λ v. turn e.1 (unit_at v e.0) *ℤ x v) +ℤ sum_over vs (λ v. row_sum es (unit_at v) *ℤ x v) = sum_same vs _ _ (λ v k. add-mul (turn e.1 (unit_at v e.0)) (row_sum es (unit_at v)) (x v)) ∙ sum_plus vs _ _ in
+    let s : sum_over vs (λ v. number_with_sign e.1 (unit_at v e.0) *ℤ x v) ≡ number_with_sign e.1 (unit_at e.0 e.0) *ℤ x e.0 = sum_single vs e.0 (λ v. number_with_sign e.1 (unit_at v e.0) *ℤ x v) d (h e.0 (inl refl)) (λ v k m. rw (ne_eqb e.0 v (λ q. m (sym q))) (turn_none e.1 (x v))) in
+    let o : number_with_sign e.1 (unit_at e.0 e.0) *ℤ x e.0 ≡ number_with_sign e.1 (x e.0) = rw (eq-eqb e.0 e.0 refl) (turn_unit e.1 (x e.0)) in
+    let p : sum_over vs (λ v. (number_with_sign e.1 (unit_at v e.0) +ℤ row_sum es (unit_at v)) *ℤ x v) ≡ sum_over vs (λ v. number_with_sign e.1 (unit_at v e.0) *ℤ x v) +ℤ sum_over vs (λ v. row_sum es (unit_at v) *ℤ x v) = sum_same vs _ _ (λ v k. add-mul (number_with_sign e.1 (unit_at v e.0)) (row_sum es (unit_at v)) (x v)) ∙ sum_plus vs _ _ in
     omega (arith, ints)
 
 module _ (n m : ℕ) (listing : List ℕ) (once : IsOnce listing) (known : (v : ℕ) → IsIn v listing → v < n + m) (all : (v : ℕ) → v < n + m → IsIn v listing) where

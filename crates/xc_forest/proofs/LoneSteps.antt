@@ -3,9 +3,9 @@ use Rattle.std.proofs.Common.{◌≡◌, ◌≢◌, ℕ, Bool, true, false, List
 use Rattle.std.proofs.lemmas.Int.{ints}
 use Rattle.std.proofs.lemmas.Bool.{cases_eq, false≢true}
 use Rattle.xc_model.specs.Parts.{WholeParts}
-use Rattle.xc_forest.specs.Forests.{Neither, turn, IsUnit}
+use Rattle.xc_forest.specs.Forests.{Neither, number_with_sign, IsUnit}
 use Rattle.xc_lists.specs.Members.{IsIn, IsOnce}
-use Rattle.xc_forest.specs.Steps.Vertices.{◌≺◌, sum_over, part, Span, IsWithin, worth, Graph, IsSumWithout, IsEnd, IsLeafRow, IsAlone, Settles, Refutes, bound}
+use Rattle.xc_forest.specs.Steps.Vertices.{◌≺◌, sum_over, part, Span, IsWithin, worth, Graph, IsSumWithout, IsEnd, IsLeafRow, IsAlone, AreVertexValues, Refutes, bound}
 use Rattle.xc_forest.proofs.Sums.{sum_same, sum_zero, sum_single, apart}
 use Rattle.xc_forest.proofs.Points.{put, put_same, put_other}
 use Rattle.xc_forest.proofs.PointSteps.{weight_times, no_weight}
@@ -25,7 +25,7 @@ signed_more vs a w v x f m s = record {
         omega (arith, ints)
 
 module _ (g : Graph) (vs : List ℕ) (a : ℕ → Span) (w : ℕ) (h : IsAlone g vs w) where
-  module _ (z : ℕ → WholeParts) (s : Settles g vs a z) (within : IsWithin (a w) (z w)) (own : IsEnd (a w) (z w) ⊎ IsSumWithout (w ∷ vs) a w (z w)) (zero_row : g.is_row w ≡ true → (c : Bool) → part c (z w) ≡ pos 0) where
+  module _ (z : ℕ → WholeParts) (s : AreVertexValues g vs a z) (within : IsWithin (a w) (z w)) (own : IsEnd (a w) (z w) ⊎ IsSumWithout (w ∷ vs) a w (z w)) (zero_row : g.is_row w ≡ true → (c : Bool) → part c (z w) ≡ pos 0) where
     loop : g.weigh w w ≡ pos 0
     loop = go (g.is_row w) refl
       where
@@ -33,7 +33,7 @@ module _ (g : Graph) (vs : List ℕ) (a : ℕ → Span) (w : ℕ) (h : IsAlone g
         go true e = g.points w w e
         go false e = g.rows w w e
 
-    pub alone_settles : Settles g (w ∷ vs) a z
+    pub alone_settles : AreVertexValues g (w ∷ vs) a z
     alone_settles = record { within = within_all; meets = meets_all; signed = signed_all }
       where
         within_all : (v : ℕ) → IsIn v (w ∷ vs) → IsWithin (a v) (z v)
@@ -96,7 +96,7 @@ module _ (g : Graph) (vs : List ℕ) (a : ℕ → Span) (w : ℕ) (h : IsAlone g
           omega (arith, ints)
 
 -- ---- the point and its last row ask for values that do not meet
-pub clash_refuted : (g : Graph) (vs : List ℕ) (a : ℕ → Span) (r p : ℕ) (b : Bool) → IsOnce vs → IsLeafRow g vs r p b → (u : ℕ → ℤ) → ((v : ℕ) → IsIn v vs → v ≢ p → u v ≡ pos 0) → u p +ℤ turn b (u r) ≡ pos 0 → record { real = pos 0; tiny = pos 0 } ≺ record { real = bound false (u r) (a r) +ℤ bound false (u p) (a p); tiny = bound true (u r) (a r) +ℤ bound true (u p) (a p) } → ((v : ℕ) → IsUnit (u v)) → Refutes g (r ∷ vs) a u
+pub clash_refuted : (g : Graph) (vs : List ℕ) (a : ℕ → Span) (r p : ℕ) (b : Bool) → IsOnce vs → IsLeafRow g vs r p b → (u : ℕ → ℤ) → ((v : ℕ) → IsIn v vs → v ≢ p → u v ≡ pos 0) → u p +ℤ number_with_sign b (u r) ≡ pos 0 → record { real = pos 0; tiny = pos 0 } ≺ record { real = bound false (u r) (a r) +ℤ bound false (u p) (a p); tiny = bound true (u r) (a r) +ℤ bound true (u p) (a p) } → ((v : ℕ) → IsUnit (u v)) → Refutes g (r ∷ vs) a u
 clash_refuted g vs a r p b d h u none balance above units = record { unit = units; cancels = cancels_all; positive = rw (bounds_sum false, bounds_sum true) above }
   where
     bounds_sum : (c : Bool) → sum_over (r ∷ vs) (λ v. bound c (u v) (a v)) ≡ bound c (u r) (a r) +ℤ bound c (u p) (a p)
@@ -109,7 +109,7 @@ clash_refuted g vs a r p b d h u none balance above units = record { unit = unit
     cancels_left : (q : ℕ) → IsIn q vs → ((q ≡ p) ⊎ (q ≡ p → ⊥)) → u q +ℤ (g.weigh r q *ℤ u r +ℤ sum_over vs (λ v. g.weigh v q *ℤ u v)) ≡ pos 0
     cancels_left q i (inl e) =
         let t : sum_over vs (λ v. g.weigh v p *ℤ u v) ≡ pos 0 = sum_zero vs _ (λ v j. term v p j (cases_eq v p)) in
-        let m : g.weigh r p *ℤ u r ≡ turn b (u r) = rw h.weight (weight_times b (u r)) in
+        let m : g.weigh r p *ℤ u r ≡ number_with_sign b (u r) = rw h.weight (weight_times b (u r)) in
         rw e (omega (arith, ints, balance))
     cancels_left q i (inr e) =
         let t : sum_over vs (λ v. g.weigh v q *ℤ u v) ≡ pos 0 = sum_zero vs _ (λ v j. term v q j (cases_eq v p)) in

@@ -4,13 +4,13 @@ use Rattle.std.specs.Prelude.{reverse}
 use Rattle.std.proofs.lemmas.Int.{ints}
 use Rattle.std.proofs.lemmas.Bool.{cases_eq, false≢true}
 use Rattle.std.proofs.lemmas.List.{reverse-append, get_or-set_same, get_or-set_other, length-set, length-map}
-use Rattle.xc_forest.specs.Forests.{HasRoom, IsUnit, IsSignedSum, turn, ranges_of}
+use Rattle.xc_forest.specs.Forests.{HasRoom, IsUnit, IsSignedSum, number_with_sign, ranges_of}
 use Rattle.xc_lists.specs.Members.{IsIn, IsOnce}
 use Rattle.xc_forest.specs.Steps.Links.{graph_of, link_at, vertices, IsLinkBy, IsLinkTo, AreLinks, IsListing}
 use Rattle.xc_forest.specs.Steps.Scaled.{scale_of, first_spans, AreBoundsOver, AreSpansOver}
 use Rattle.xc_forest.specs.Steps.Spans.{CanLessen, TellsLess}
 use Rattle.xc_forest.specs.Steps.Trails.{IsTrail, took_point, took_row, took_alone, IsTrailOf, IsNarrowed, IsClash, IsLoneValue, point_clash, row_clash}
-use Rattle.xc_forest.specs.Steps.Vertices.{◌≺◌, no_parts, Graph, Span, end, IsSum, IsNonempty, IsLeafPoint, IsLeafRow, IsAlone, IsMeet, lessened, turned, bound}
+use Rattle.xc_forest.specs.Steps.Vertices.{◌≺◌, no_parts, Graph, Span, end, IsSum, IsNonempty, IsLeafPoint, IsLeafRow, IsAlone, IsMeet, row_without_point, span_with_sign, bound}
 use Rattle.xc_forest.specs.declared.links.Link.{Link}
 use Rattle.xc_forest.specs.declared.spans.Bounds.{Bounds}
 use Rattle.xc_forest.specs.declared.types.Forest.{Forest}
@@ -30,11 +30,11 @@ use Rattle.xc_frac.specs.declared.wide.Op.{Op}
 use Rattle.xc_frac.specs.declared.wide.Wide.{Wide}
 use Rattle.xc_model.specs.Parts.{Parts, SameParts, WholeParts, ArePartsOver, zero_parts}
 
-pub lessened_nonempty : (b : Bool) (x y : Span) → IsNonempty x → IsNonempty y → IsNonempty (lessened b x y)
+pub lessened_nonempty : (b : Bool) (x y : Span) → IsNonempty x → IsNonempty y → IsNonempty (row_without_point b x y)
 lessened_nonempty false x y h k = grind (arith, ints)
 lessened_nonempty true x y h k = grind (arith, ints)
 
-turned_nonempty : (b : Bool) (y : Span) → IsNonempty y → IsNonempty (turned b y)
+turned_nonempty : (b : Bool) (y : Span) → IsNonempty y → IsNonempty (span_with_sign b y)
 turned_nonempty false y h = h
 turned_nonempty true y h = grind (arith, ints)
 
@@ -50,17 +50,17 @@ reverse_more xs x = reverse-append xs (x ∷ [])
 
 -- ---- multipliers for a meet that is empty
 abbrev pub Clashes : Bool → Span → Span → ℤ → ℤ → Type 0
-Clashes b x y up ur = (up +ℤ turn b ur ≡ pos 0) × IsUnit up × IsUnit ur × (no_parts ≺ record { real = bound false ur y +ℤ bound false up x; tiny = bound true ur y +ℤ bound true up x })
+Clashes b x y up ur = (up +ℤ number_with_sign b ur ≡ pos 0) × IsUnit up × IsUnit ur × (no_parts ≺ record { real = bound false ur y +ℤ bound false up x; tiny = bound true ur y +ℤ bound true up x })
 
-clash_below : (b : Bool) (x y : Span) → (turned b y).high ≺ x.low → Clashes b x y (pos 1) (row_clash false b)
+clash_below : (b : Bool) (x y : Span) → (span_with_sign b y).high ≺ x.low → Clashes b x y (pos 1) (row_clash false b)
 clash_below false x y h = (omega (arith, ints), inr (inl refl), inr (inr refl), grind (arith, ints))
 clash_below true x y h = (omega (arith, ints), inr (inl refl), inr (inl refl), grind (arith, ints))
 
-clash_above : (b : Bool) (x y : Span) → x.high ≺ (turned b y).low → Clashes b x y (negsuc 0) (row_clash true b)
+clash_above : (b : Bool) (x y : Span) → x.high ≺ (span_with_sign b y).low → Clashes b x y (negsuc 0) (row_clash true b)
 clash_above false x y h = (omega (arith, ints), inr (inr refl), inr (inl refl), grind (arith, ints))
 clash_above true x y h = (omega (arith, ints), inr (inr refl), inr (inr refl), grind (arith, ints))
 
-clashes : (lo hi b : Bool) (x y m : Span) → IsNonempty x → IsNonempty y → IsMeet lo hi x (turned b y) m → m.high ≺ m.low → Clashes b x y (point_clash lo) (row_clash lo b)
+clashes : (lo hi b : Bool) (x y m : Span) → IsNonempty x → IsNonempty y → IsMeet lo hi x (span_with_sign b y) m → m.high ≺ m.low → Clashes b x y (point_clash lo) (row_clash lo b)
 clashes false false b x y m h k w c = absurd (irreflexive _ (lt_le _ _ _ (rw (w.low, w.high) at c) h))
 clashes true true b x y m h k w c = absurd (irreflexive _ (lt_le _ _ _ (rw (w.low, w.high) at c) (turned_nonempty b y k)))
 clashes false true b x y m h k w c = clash_below b x y (rw (w.low, w.high) at c)
@@ -168,10 +168,10 @@ module _ {E : Type 0} (parts : E → Parts) (forest : Forest E) (links : List Li
     trail_push u vs a t = subst (λ (us : List (Undo E)). IsTrail parts scale graph (vertices links) firsts us vs a) (sym (reverse_more undos u)) t
 
     pub point_step : IsLeafPoint (graph_of (length forest.ranges) forest.rows) (vertices (drop (k + 1) links)) link.vertex link.next link.minus → (x y new : Bounds E) → AreBoundsOver parts (scale_of (ranges_of parts forest.ranges)) x (h.now link.next) → AreBoundsOver parts (scale_of (ranges_of parts forest.ranges)) y (h.now link.vertex)
-        → AreBoundsOver parts (scale_of (ranges_of parts forest.ranges)) new (lessened link.minus (h.now link.next) (h.now link.vertex))
+        → AreBoundsOver parts (scale_of (ranges_of parts forest.ranges)) new (row_without_point link.minus (h.now link.next) (h.now link.vertex))
         → IsNarrowed parts forest links (k + 1) (set spans link.next new) (undos ++ undo.Point link.vertex link.next link.minus x y ∷ [])
     point_step leaf x y new ox oy on =
-        let m = lessened link.minus (h.now link.next) (h.now link.vertex) in
+        let m = row_without_point link.minus (h.now link.next) (h.now link.vertex) in
         record {
           now = put link.next m h.now;
           trail = trail_push _ _ _ (took_point link.vertex link.next link.minus x y (reverse undos) later h.now (put link.next m h.now) trail_here leaf ox oy (put_same link.next m h.now) (λ v i o. put_other link.next v m h.now o) (some_here link.next (inr leaf.left)) (some_here link.vertex (inl refl)));
@@ -181,7 +181,7 @@ module _ {E : Type 0} (parts : E → Parts) (forest : Forest E) (links : List Li
         }
 
     pub row_step : IsLeafRow (graph_of (length forest.ranges) forest.rows) (vertices (drop (k + 1) links)) link.vertex link.next link.minus → (lo hi : Bool) (new : Bounds E) (m : Span) → AreBoundsOver parts (scale_of (ranges_of parts forest.ranges)) new m
-        → IsMeet lo hi (h.now link.next) (turned link.minus (h.now link.vertex)) m → IsNonempty m
+        → IsMeet lo hi (h.now link.next) (span_with_sign link.minus (h.now link.vertex)) m → IsNonempty m
         → IsNarrowed parts forest links (k + 1) (set spans link.next new) (undos ++ undo.Row link.vertex link.next link.minus lo hi ∷ [])
     row_step leaf lo hi new m on w some = record {
       now = put link.next m h.now;
@@ -201,7 +201,7 @@ module _ {E : Type 0} (parts : E → Parts) (forest : Forest E) (links : List Li
       each = h.each;
     }
 
-    pub row_clashes : IsLeafRow (graph_of (length forest.ranges) forest.rows) (vertices (drop (k + 1) links)) link.vertex link.next link.minus → (lo hi : Bool) (m : Span) → IsMeet lo hi (h.now link.next) (turned link.minus (h.now link.vertex)) m → m.high ≺ m.low
+    pub row_clashes : IsLeafRow (graph_of (length forest.ranges) forest.rows) (vertices (drop (k + 1) links)) link.vertex link.next link.minus → (lo hi : Bool) (m : Span) → IsMeet lo hi (h.now link.next) (span_with_sign link.minus (h.now link.vertex)) m → m.high ≺ m.low
         → (clash : Clash) → clash.row ≡ link.vertex → clash.point ≡ link.next → clash.row_by ≡ row_clash lo link.minus → clash.point_by ≡ point_clash lo → IsClash parts forest links undos clash
     row_clashes leaf lo hi m w c clash r p rb pb =
         let t = clashes lo hi link.minus (h.now link.next) (h.now link.vertex) m (some_here link.next (inr leaf.left)) (some_here link.vertex (inl refl)) w c in

@@ -5,13 +5,13 @@ use Rattle.std.proofs.lemmas.Int.{ints}
 use Rattle.std.proofs.lemmas.Bool.{cases_eq, eq-eqb, ne_eqb}
 use Rattle.std.proofs.lemmas.List.{get_or-set_same, get_or-set_other, length-set, get_or_append_left, get_or_push, get_or_past, length_push}
 use Rattle.xc_model.proofs.Integers.{lt_or_le}
-use Rattle.xc_forest.specs.Forests.{IsUnit, multiplier_at, turn, ranges_of}
+use Rattle.xc_forest.specs.Forests.{IsUnit, multiplier_at, number_with_sign, ranges_of}
 use Rattle.xc_lists.specs.Members.{IsIn}
 use Rattle.xc_forest.specs.Steps.Links.{graph_of, vertices, IsListing}
 use Rattle.xc_forest.specs.Steps.Scaled.{scale_of, first_spans}
 use Rattle.xc_forest.specs.Steps.Shares.{IsShare, IsShareOf, AreZero}
 use Rattle.xc_forest.specs.Steps.Trails.{AreRefuted, IsClash, with_point, with_row, with_alone}
-use Rattle.xc_forest.specs.Steps.Vertices.{Graph, Span, part, IsMeet, turned, Refutes, bound}
+use Rattle.xc_forest.specs.Steps.Vertices.{Graph, Span, part, IsMeet, span_with_sign, Refutes, bound}
 use Rattle.xc_forest.specs.declared.links.Link.{Link}
 use Rattle.xc_forest.specs.declared.spans.Bounds.{Bounds}
 use Rattle.xc_forest.specs.declared.types.Forest.{Forest}
@@ -26,66 +26,66 @@ use Rattle.xc_forest.proofs.Undoings.{PointTaken, point_taken, RowTaken, row_tak
 use Rattle.xc_model.specs.Parts.{Parts}
 
 -- ---- shares
-pub turn_unit : (b : Bool) (u : ℤ) → IsUnit u → IsUnit (turn b u)
+pub turn_unit : (b : Bool) (u : ℤ) → IsUnit u → IsUnit (number_with_sign b u)
 turn_unit false u h = h
 turn_unit true u (inl e) = inl (rw e)
 turn_unit true u (inr (inl e)) = inr (inr (rw e))
 turn_unit true u (inr (inr e)) = inr (inl (rw e))
 
-turn_twice : (b : Bool) (u : ℤ) → pos 0 +ℤ turn b (turn b u) ≡ u
+turn_twice : (b : Bool) (u : ℤ) → pos 0 +ℤ number_with_sign b (number_with_sign b u) ≡ u
 turn_twice false u = omega (arith, ints)
 turn_twice true u = omega (arith, ints)
 
-turn_none : (b : Bool) (u : ℤ) → u +ℤ turn b (pos 0) ≡ u
+turn_none : (b : Bool) (u : ℤ) → u +ℤ number_with_sign b (pos 0) ≡ u
 turn_none false u = omega (arith, ints)
 turn_none true u = omega (arith, ints)
 
-turned_low : (b c : Bool) (y : Span) → part c (turned b y).low ≡ bound c (turn b (pos 1)) y
+turned_low : (b c : Bool) (y : Span) → part c (span_with_sign b y).low ≡ bound c (number_with_sign b (pos 1)) y
 turned_low false c y = refl
 turned_low true false y = refl
 turned_low true true y = refl
 
-turned_high : (b c : Bool) (y : Span) → neg_ℤ (part c (turned b y).high) ≡ bound c (turn b (negsuc 0)) y
+turned_high : (b c : Bool) (y : Span) → neg_ℤ (part c (span_with_sign b y).high) ≡ bound c (number_with_sign b (negsuc 0)) y
 turned_high false c y = refl
 turned_high true false y = omega (arith, ints)
 turned_high true true y = omega (arith, ints)
 
-none_turned : (b : Bool) → turn b (pos 0) ≡ pos 0
+none_turned : (b : Bool) → number_with_sign b (pos 0) ≡ pos 0
 none_turned false = refl
 none_turned true = refl
 
 -- what multipliers of x and y stand for one of what they have in common
 pub record Stands (b : Bool) (x y m : Span) (u up ur : ℤ) : Type 0 where
-  pub balance : up +ℤ turn b ur ≡ u
+  pub balance : up +ℤ number_with_sign b ur ≡ u
   pub point : IsUnit up
   pub row : IsUnit ur
   pub ends : (c : Bool) → bound c u m ≡ bound c up x +ℤ bound c ur y
 
-pub unit_share : (f b : Bool) (u up ur : ℤ) → IsUnit u → IsShareOf f b u up ur → (up +ℤ turn b ur ≡ u) × IsUnit up × IsUnit ur
+pub unit_share : (f b : Bool) (u up ur : ℤ) → IsUnit u → IsShareOf f b u up ur → (up +ℤ number_with_sign b ur ≡ u) × IsUnit up × IsUnit ur
 unit_share true b u up ur h s = rw (s.0, s.1) ((turn_twice b u, inl refl, turn_unit b u h))
 unit_share false b u up ur h s = rw (s.0, s.1) ((turn_none b u, h, inl refl))
 
-low_ends : (f b : Bool) (x y m : Span) (up ur : ℤ) → m.low ≡ cond f (turned b y).low x.low → IsShareOf f b (pos 1) up ur → (c : Bool) → part c m.low ≡ bound c up x +ℤ bound c ur y
-low_ends true b x y m up ur e s c = rw (s.0, s.1) (let k : part c m.low ≡ bound c (turn b (pos 1)) y = ap (part c) e ∙ turned_low b c y in omega (arith, ints))
+low_ends : (f b : Bool) (x y m : Span) (up ur : ℤ) → m.low ≡ cond f (span_with_sign b y).low x.low → IsShareOf f b (pos 1) up ur → (c : Bool) → part c m.low ≡ bound c up x +ℤ bound c ur y
+low_ends true b x y m up ur e s c = rw (s.0, s.1) (let k : part c m.low ≡ bound c (number_with_sign b (pos 1)) y = ap (part c) e ∙ turned_low b c y in omega (arith, ints))
 low_ends false b x y m up ur e s c = rw (s.0, s.1) (let k : part c m.low ≡ part c x.low = ap (part c) e in omega (arith, ints))
 
-high_ends : (f b : Bool) (x y m : Span) (up ur : ℤ) → m.high ≡ cond f (turned b y).high x.high → IsShareOf f b (negsuc 0) up ur → (c : Bool) → neg_ℤ (part c m.high) ≡ bound c up x +ℤ bound c ur y
-high_ends true b x y m up ur e s c = rw (s.0, s.1) (let k : neg_ℤ (part c m.high) ≡ bound c (turn b (negsuc 0)) y = ap (λ z. neg_ℤ (part c z)) e ∙ turned_high b c y in omega (arith, ints))
+high_ends : (f b : Bool) (x y m : Span) (up ur : ℤ) → m.high ≡ cond f (span_with_sign b y).high x.high → IsShareOf f b (negsuc 0) up ur → (c : Bool) → neg_ℤ (part c m.high) ≡ bound c up x +ℤ bound c ur y
+high_ends true b x y m up ur e s c = rw (s.0, s.1) (let k : neg_ℤ (part c m.high) ≡ bound c (number_with_sign b (negsuc 0)) y = ap (λ z. neg_ℤ (part c z)) e ∙ turned_high b c y in omega (arith, ints))
 high_ends false b x y m up ur e s c = rw (s.0, s.1) (let k : part c m.high ≡ part c x.high = ap (part c) e in omega (arith, ints))
 
 no_ends_of : (f b : Bool) (x y : Span) (up ur : ℤ) → IsShareOf f b (pos 0) up ur → (c : Bool) → pos 0 ≡ bound c up x +ℤ bound c ur y
 no_ends_of true b x y up ur s c = rw (s.0, s.1, none_turned b) refl
 no_ends_of false b x y up ur s c = rw (s.0, s.1) refl
 
-stands : (b lo hi : Bool) (x y m : Span) (u up ur : ℤ) → IsMeet lo hi x (turned b y) m → IsUnit u → IsShare b lo hi u up ur → Stands b x y m u up ur
+stands : (b lo hi : Bool) (x y m : Span) (u up ur : ℤ) → IsMeet lo hi x (span_with_sign b y) m → IsUnit u → IsShare b lo hi u up ur → Stands b x y m u up ur
 stands b lo hi x y m u up ur w h s =
     let k = unit_share s.is_of_row b u up ur h s.share in
     record { balance = k.0; point = k.1; row = k.2; ends = ends h }
   where
     ends : IsUnit u → (c : Bool) → bound c u m ≡ bound c up x +ℤ bound c ur y
     ends (inl e) c = rw e (no_ends_of s.is_of_row b x y up ur (subst (λ (z : ℤ). IsShareOf s.is_of_row b z up ur) e s.share) c)
-    ends (inr (inl e)) c = rw e (low_ends s.is_of_row b x y m up ur (w.low ∙ ap (λ (f : Bool). cond f (turned b y).low x.low) (sym (s.low e))) (subst (λ (z : ℤ). IsShareOf s.is_of_row b z up ur) e s.share) c)
-    ends (inr (inr e)) c = rw e (high_ends s.is_of_row b x y m up ur (w.high ∙ ap (λ (f : Bool). cond f (turned b y).high x.high) (sym (s.high e))) (subst (λ (z : ℤ). IsShareOf s.is_of_row b z up ur) e s.share) c)
+    ends (inr (inl e)) c = rw e (low_ends s.is_of_row b x y m up ur (w.low ∙ ap (λ (f : Bool). cond f (span_with_sign b y).low x.low) (sym (s.low e))) (subst (λ (z : ℤ). IsShareOf s.is_of_row b z up ur) e s.share) c)
+    ends (inr (inr e)) c = rw e (high_ends s.is_of_row b x y m up ur (w.high ∙ ap (λ (f : Bool). cond f (span_with_sign b y).high x.high) (sym (s.high e))) (subst (λ (z : ℤ). IsShareOf s.is_of_row b z up ur) e s.share) c)
 
 -- 1, -1 and 0 fit a byte
 pub cast_unit : (k : ℤ) → IsUnit k → to_z w8 (of_z w8 k) ≡ k
@@ -129,7 +129,7 @@ module _ {E : Type 0} (parts : E → Parts) (forest : Forest E) (links : List Li
     pub point_known : p < length ms
     point_known = let t = taken_point in below parts forest links listing undos (length ms) h.each (p ∷ h.left) t.before t.trail p (inl refl)
 
-    pub point_back : (by u : ℤ) → by ≡ multiplier_at ms r → u ≡ turn (not b) by → AreRefuted parts forest links undos (set ms p u)
+    pub point_back : (by u : ℤ) → by ≡ multiplier_at ms r → u ≡ number_with_sign (not b) by → AreRefuted parts forest links undos (set ms p u)
     point_back by u is made =
         let t = taken_point in
         let other : (v : ℕ) → IsIn v h.left → multiplier_at (set ms p u) v ≡ multiplier_at ms v = λ v i. get_or-set_other ms p v u (pos 0) (apart v p h.left i t.leaf.fresh) in
@@ -139,7 +139,7 @@ module _ {E : Type 0} (parts : E → Parts) (forest : Forest E) (links : List Li
           now = t.before;
           trail = t.trail;
           refutes = point_contradicts graph h.left t.before h.now p r b (once_of parts forest links listing undos (p ∷ h.left) t.before t.trail).1 t.leaf t.less t.kept (multiplier_at ms) (multiplier_at (set ms p u)) h.refutes other
-              (get_or-set_same ms p u (pos 0) point_known ∙ made ∙ ap (turn (not b)) (is ∙ sym (other r t.leaf.left)))
+              (get_or-set_same ms p u (pos 0) point_known ∙ made ∙ ap (number_with_sign (not b)) (is ∙ sym (other r t.leaf.left)))
               (units_set ms p u point_known unit h.refutes.unit);
           each = length-set ms p u ∙ h.each;
         }

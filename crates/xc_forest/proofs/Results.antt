@@ -5,12 +5,12 @@ use Rattle.std.proofs.lemmas.Int.{ints}
 use Rattle.std.proofs.lemmas.List.{length-map, length-take-le, length-drop, get_or-map, get_or-take, get_or-drop, get_or_past}
 use Rattle.xc_model.proofs.Integers.{lt_or_le, mul_comm, scale_lt}
 use Rattle.xc_model.proofs.Pairs.{same_pairs}
-use Rattle.xc_forest.specs.Forests.{AreRows, AreRanges, Solves, Contradicts, IsUnit, range_at, ranges_of, row_at, row_total, row_sum, signed, turn, unit_at, value_at, sum_below, named_end, multiplier_at, points_of}
+use Rattle.xc_forest.specs.Forests.{AreRows, AreRanges, Solves, Contradicts, IsUnit, range_at, ranges_of, row_at, row_total, row_sum, parts_with_sign, number_with_sign, unit_at, value_at, sum_below, named_end, multiplier_at, points_of}
 use Rattle.xc_lists.specs.Members.{IsIn}
 use Rattle.xc_forest.specs.Steps.Links.{graph_of, weigh_of, vertices, IsListing}
 use Rattle.xc_forest.specs.Steps.Scaled.{scale_of, first_spans, AreSpansOver, AreValuesOver}
 use Rattle.xc_forest.specs.Steps.Trails.{IsTrail, start, IsTrailOf, IsNarrowed, AreAllTaken, AreSettled, AreRefuted}
-use Rattle.xc_forest.specs.Steps.Vertices.{◌≺◌, ◌≼◌, no_parts, no_span, Graph, Span, part, IsWithin, IsNonempty, Settles, Refutes, bound, sum_over}
+use Rattle.xc_forest.specs.Steps.Vertices.{◌≺◌, ◌≼◌, no_parts, no_span, Graph, Span, part, IsWithin, IsNonempty, AreVertexValues, Refutes, bound, sum_over}
 use Rattle.xc_forest.specs.declared.links.Link.{Link}
 use Rattle.xc_forest.specs.declared.spans.Bounds.{Bounds}
 use Rattle.xc_forest.specs.declared.types.Forest.{Forest}
@@ -86,13 +86,13 @@ module _ (ranges : List (Interval Parts)) (good : AreRanges ranges) where
       ]
 
 -- ---- sums of rows
-signed_over : (b : Bool) (x : Parts) (a : WholeParts) (d : ℕ) → ArePartsOver x a d → ArePartsOver (signed b x) (record { real = turn b a.real; tiny = turn b a.tiny }) d
+signed_over : (b : Bool) (x : Parts) (a : WholeParts) (d : ℕ) → ArePartsOver x a d → ArePartsOver (parts_with_sign b x) (record { real = number_with_sign b a.real; tiny = number_with_sign b a.tiny }) d
 signed_over false x a d h = h
 signed_over true x a d h = neg_parts_over x a d h
 
 pub row_total_over : (row : List (ℕ × Bool)) (z : ℕ → Parts) (w : ℕ → WholeParts) (d : ℕ) → 0 < d → ((p : ℕ) → IsIn p (points_of row) → ArePartsOver (z p) (w p) d) → ArePartsOver (row_total row z) (record { real = row_sum row (λ p. (w p).real); tiny = row_sum row (λ p. (w p).tiny) }) d
 row_total_over [] z w d p h = zero_parts_over d p
-row_total_over (e ∷ row) z w d p h = sum_parts_over (signed e.1 (z e.0)) (row_total row z) _ _ d (signed_over e.1 (z e.0) (w e.0) d (h e.0 (inl refl))) (row_total_over row z w d p (λ q i. h q (inr i)))
+row_total_over (e ∷ row) z w d p h = sum_parts_over (parts_with_sign e.1 (z e.0)) (row_total row z) _ _ d (signed_over e.1 (z e.0) (w e.0) d (h e.0 (inl refl))) (row_total_over row z w d p (λ q i. h q (inr i)))
 
 -- an end by its multiplier
 pub named_over : (k : ℤ) (range : Interval Parts) (a : Span) (d : ℕ) → ArePartsOver (value_of range.low) a.low d → ArePartsOver (value_of range.high) a.high d → ArePartsOver (named_end k range) (record { real = bound false k a; tiny = bound true k a }) d
@@ -143,8 +143,8 @@ module _ {E : Type 0} (parts : E → Parts) (forest : Forest E) (links : List Li
     trail_is : (h.left ≡ vertices links) × (h.now ≡ first_spans ranges)
     trail_is = whole_trail parts (scale_of ranges) (graph_of n forest.rows) (vertices links) (first_spans ranges) h.left h.now h.trail
 
-    settles : Settles (graph_of n forest.rows) (vertices links) (first_spans ranges) h.value
-    settles = subst (λ (a : ℕ → Span). Settles (graph_of n forest.rows) (vertices links) a h.value) trail_is.1 (subst (λ (vs : List ℕ). Settles (graph_of n forest.rows) vs h.now h.value) trail_is.0 h.settles)
+    settles : AreVertexValues (graph_of n forest.rows) (vertices links) (first_spans ranges) h.value
+    settles = subst (λ (a : ℕ → Span). AreVertexValues (graph_of n forest.rows) (vertices links) a h.value) trail_is.1 (subst (λ (vs : List ℕ). AreVertexValues (graph_of n forest.rows) vs h.now h.value) trail_is.0 h.settles)
 
     kept : List E
     kept = take n values

@@ -5,9 +5,9 @@ use Rattle.std.proofs.lemmas.Int.{ints}
 use Rattle.std.proofs.lemmas.Bool.{cases_eq, false≢true}
 use Rattle.xc_model.specs.Parts.{WholeParts}
 use Rattle.xc_model.proofs.Pairs.{same_pairs}
-use Rattle.xc_forest.specs.Forests.{Choice, Neither, Plus, Minus, turn, IsUnit}
+use Rattle.xc_forest.specs.Forests.{Choice, Neither, Plus, Minus, number_with_sign, IsUnit}
 use Rattle.xc_lists.specs.Members.{IsIn, IsOnce}
-use Rattle.xc_forest.specs.Steps.Vertices.{sum_over, part, Span, end, IsWithin, worth, turned, Graph, IsSumWithout, IsEnd, IsMeet, IsLeafRow, Settles, Refutes, bound}
+use Rattle.xc_forest.specs.Steps.Vertices.{sum_over, part, Span, end, IsWithin, worth, span_with_sign, Graph, IsSumWithout, IsEnd, IsMeet, IsLeafRow, AreVertexValues, Refutes, bound}
 use Rattle.xc_forest.proofs.PairOrder.{le_le}
 use Rattle.xc_forest.proofs.Sums.{sum_same, sum_zero, sum_single, sum_change, apart}
 use Rattle.xc_forest.proofs.Points.{signed, worth_signed, with_end, put, put_same, put_other}
@@ -47,7 +47,7 @@ crossed false e = Plus e
 crossed true false = Minus true
 crossed true true = Minus false
 
-crossed_worth : (b c e : Bool) (y : Span) → part c (end e (turned b y)) ≡ worth c (crossed b e) y
+crossed_worth : (b c e : Bool) (y : Span) → part c (end e (span_with_sign b y)) ≡ worth c (crossed b e) y
 crossed_worth false c e y = refl
 crossed_worth true false false y = refl
 crossed_worth true false true y = refl
@@ -62,31 +62,31 @@ pub source : (lo hi : Bool) (x y m : Span) (e : Bool) → IsMeet lo hi x y m →
 source lo hi x y m false h = either lo x.low y.low m.low h.low
 source lo hi x y m true h = either hi x.high y.high m.high h.high
 
-pub taken : (lo hi b : Bool) (x y m : Span) (k : Choice) → IsMeet lo hi x (turned b y) m → (j : Choice) × (i : Choice) × IsTaken b x y m k j i
+pub taken : (lo hi b : Bool) (x y m : Span) (k : Choice) → IsMeet lo hi x (span_with_sign b y) m → (j : Choice) × (i : Choice) × IsTaken b x y m k j i
 taken lo hi b x y m Neither h = (Neither, Neither, record { none = λ e. (refl, refl); is = λ c. refl })
-taken lo hi b x y m (Plus e) h = go (source lo hi x (turned b y) m e h)
+taken lo hi b x y m (Plus e) h = go (source lo hi x (span_with_sign b y) m e h)
   where
-    go : ((end e m ≡ end e x) ⊎ (end e m ≡ end e (turned b y))) → (j : Choice) × (i : Choice) × IsTaken b x y m (Plus e) j i
+    go : ((end e m ≡ end e x) ⊎ (end e m ≡ end e (span_with_sign b y))) → (j : Choice) × (i : Choice) × IsTaken b x y m (Plus e) j i
     go (inl q) = (Plus e, Neither, record { none = λ f. absurd (plus_ne e f); is = λ c. let z : part c (end e m) ≡ part c (end e x) = ap (part c) q in omega (arith, ints) })
     go (inr q) = (Neither, crossed b e, record { none = λ f. absurd (plus_ne e f); is = λ c. let z : part c (end e m) ≡ worth c (crossed b e) y = ap (part c) q ∙ crossed_worth b c e y in omega (arith, ints) })
-taken lo hi b x y m (Minus e) h = go (source lo hi x (turned b y) m e h)
+taken lo hi b x y m (Minus e) h = go (source lo hi x (span_with_sign b y) m e h)
   where
-    go : ((end e m ≡ end e x) ⊎ (end e m ≡ end e (turned b y))) → (j : Choice) × (i : Choice) × IsTaken b x y m (Minus e) j i
+    go : ((end e m ≡ end e x) ⊎ (end e m ≡ end e (span_with_sign b y))) → (j : Choice) × (i : Choice) × IsTaken b x y m (Minus e) j i
     go (inl q) = (Minus e, Neither, record { none = λ f. absurd (minus_ne e f); is = λ c. let z : part c (end e m) ≡ part c (end e x) = ap (part c) q in omega (arith, ints) })
     go (inr q) = (Neither, signed true (crossed b e), record { none = λ f. absurd (minus_ne e f); is = λ c. let z : part c (end e m) ≡ worth c (crossed b e) y = ap (part c) q ∙ crossed_worth b c e y in let w : worth c (signed true (crossed b e)) y ≡ neg_ℤ (worth c (crossed b e) y) = worth_signed c true (crossed b e) y in omega (arith, ints) })
 
 -- ---- within
-turned_within : (b : Bool) (y : Span) (x z : WholeParts) → IsWithin (turned b y) x → ((c : Bool) → part c z ≡ turn b (part c x)) → IsWithin y z
+turned_within : (b : Bool) (y : Span) (x z : WholeParts) → IsWithin (span_with_sign b y) x → ((c : Bool) → part c z ≡ number_with_sign b (part c x)) → IsWithin y z
 turned_within false y x z h e = let f : z.real ≡ x.real = e false in let k : z.tiny ≡ x.tiny = e true in record { low = grind (arith, ints); high = grind (arith, ints) }
 turned_within true y x z h e = let f : z.real ≡ neg_ℤ x.real = e false in let k : z.tiny ≡ neg_ℤ x.tiny = e true in record { low = grind (arith, ints); high = grind (arith, ints) }
 
-turned_end : (b e : Bool) (y : Span) (x z : WholeParts) → x ≡ end e (turned b y) → ((c : Bool) → part c z ≡ turn b (part c x)) → IsEnd y z
+turned_end : (b e : Bool) (y : Span) (x z : WholeParts) → x ≡ end e (span_with_sign b y) → ((c : Bool) → part c z ≡ number_with_sign b (part c x)) → IsEnd y z
 turned_end false e y x z h f = (e, same_pairs _ _ (f false ∙ ap (λ (v : WholeParts). v.real) h) (f true ∙ ap (λ (v : WholeParts). v.tiny) h))
 turned_end true false y x z h f = (true, same_pairs _ _ (let q : x.real ≡ neg_ℤ y.high.real = ap (λ (v : WholeParts). v.real) h in let k : z.real ≡ neg_ℤ x.real = f false in omega (arith, ints)) (let q : x.tiny ≡ neg_ℤ y.high.tiny = ap (λ (v : WholeParts). v.tiny) h in let k : z.tiny ≡ neg_ℤ x.tiny = f true in omega (arith, ints)))
 turned_end true true y x z h f = (false, same_pairs _ _ (let q : x.real ≡ neg_ℤ y.low.real = ap (λ (v : WholeParts). v.real) h in let k : z.real ≡ neg_ℤ x.real = f false in omega (arith, ints)) (let q : x.tiny ≡ neg_ℤ y.low.tiny = ap (λ (v : WholeParts). v.tiny) h in let k : z.tiny ≡ neg_ℤ x.tiny = f true in omega (arith, ints)))
 
 -- ---- a row is taken away
-module _ (g : Graph) (vs : List ℕ) (a n : ℕ → Span) (r p : ℕ) (b lo hi : Bool) (d : IsOnce vs) (h : IsLeafRow g vs r p b) (met : IsMeet lo hi (a p) (turned b (a r)) (n p)) (kept : (v : ℕ) → IsIn v vs → v ≢ p → n v ≡ a v) where
+module _ (g : Graph) (vs : List ℕ) (a n : ℕ → Span) (r p : ℕ) (b lo hi : Bool) (d : IsOnce vs) (h : IsLeafRow g vs r p b) (met : IsMeet lo hi (a p) (span_with_sign b (a r)) (n p)) (kept : (v : ℕ) → IsIn v vs → v ≢ p → n v ≡ a v) where
   distinct_with : IsOnce (r ∷ vs)
   distinct_with = (h.fresh, d)
 
@@ -125,14 +125,14 @@ module _ (g : Graph) (vs : List ℕ) (a n : ℕ → Span) (r p : ℕ) (b lo hi :
         put_same r t.1 (put p t.0 s.choice) ∙ o.1,
       )
 
-  module _ (y z : ℕ → WholeParts) (s : Settles g vs n y) (same : (v : ℕ) → IsIn v vs → z v ≡ y v) (own : (c : Bool) → part c (z r) ≡ turn b (part c (z p))) where
+  module _ (y z : ℕ → WholeParts) (s : AreVertexValues g vs n y) (same : (v : ℕ) → IsIn v vs → z v ≡ y v) (own : (c : Bool) → part c (z r) ≡ number_with_sign b (part c (z p))) where
     within_point : IsWithin (a p) (z p)
     within_point = let w : IsWithin (n p) (y p) = s.within p h.left in rw (same p h.left) (record { low = le_le _ _ _ met.above_first w.low; high = le_le _ _ _ w.high met.below_first })
 
     within_row : IsWithin (a r) (z r)
     within_row =
         let w : IsWithin (n p) (y p) = s.within p h.left in
-        let k : IsWithin (turned b (a r)) (z p) = rw (same p h.left) (record { low = le_le _ _ _ met.above_second w.low; high = le_le _ _ _ w.high met.below_second }) in
+        let k : IsWithin (span_with_sign b (a r)) (z p) = rw (same p h.left) (record { low = le_le _ _ _ met.above_second w.low; high = le_le _ _ _ w.high met.below_second }) in
         turned_within b (a r) (z p) (z r) k own
 
     within_left : (v : ℕ) → IsIn v vs → ((v ≡ p) ⊎ (v ≡ p → ⊥)) → IsWithin (a v) (z v)
@@ -141,20 +141,20 @@ module _ (g : Graph) (vs : List ℕ) (a n : ℕ → Span) (r p : ℕ) (b lo hi :
 
     signed_point : (IsEnd (n p) (y p) ⊎ IsSumWithout vs n p (y p)) → IsEnd (a p) (z p) ⊎ IsSumWithout (r ∷ vs) a p (z p)
     signed_point (inr k) = rw (same p h.left) (inr (signed_with p (y p) (apart p r vs h.left h.fresh) (inl refl) k))
-    signed_point (inl k) = rw (same p h.left) (go (source lo hi (a p) (turned b (a r)) (n p) k.0 met))
+    signed_point (inl k) = rw (same p h.left) (go (source lo hi (a p) (span_with_sign b (a r)) (n p) k.0 met))
       where
-        go : ((end k.0 (n p) ≡ end k.0 (a p)) ⊎ (end k.0 (n p) ≡ end k.0 (turned b (a r)))) → IsEnd (a p) (y p) ⊎ IsSumWithout (r ∷ vs) a p (y p)
+        go : ((end k.0 (n p) ≡ end k.0 (a p)) ⊎ (end k.0 (n p) ≡ end k.0 (span_with_sign b (a r)))) → IsEnd (a p) (y p) ⊎ IsSumWithout (r ∷ vs) a p (y p)
         go (inl e) = inl (k.0, k.1 ∙ e)
         go (inr e) = inr (one_end (r ∷ vs) a r p (crossed b k.0) (y p) distinct_with (inl refl) (apart p r vs h.left h.fresh) (λ c. ap (part c) (k.1 ∙ e) ∙ crossed_worth b c k.0 (a r)))
 
     signed_row : (IsEnd (n p) (y p) ⊎ IsSumWithout vs n p (y p)) → IsEnd (a r) (z r) ⊎ IsSumWithout (r ∷ vs) a r (z r)
     signed_row (inr k) =
         let w = signed_without (y p) k in
-        inr (with_end (r ∷ vs) a b p r Neither (y p) (z r) distinct_with (inr h.left) (λ e. apart p r vs h.left h.fresh (sym e)) w.0 w.1 (λ c. own c ∙ (ap (λ (v : WholeParts). turn b (part c v)) (same p h.left) ∙ omega (arith, ints))))
-    signed_row (inl k) = go (source lo hi (a p) (turned b (a r)) (n p) k.0 met)
+        inr (with_end (r ∷ vs) a b p r Neither (y p) (z r) distinct_with (inr h.left) (λ e. apart p r vs h.left h.fresh (sym e)) w.0 w.1 (λ c. own c ∙ (ap (λ (v : WholeParts). number_with_sign b (part c v)) (same p h.left) ∙ omega (arith, ints))))
+    signed_row (inl k) = go (source lo hi (a p) (span_with_sign b (a r)) (n p) k.0 met)
       where
-        go : ((end k.0 (n p) ≡ end k.0 (a p)) ⊎ (end k.0 (n p) ≡ end k.0 (turned b (a r)))) → IsEnd (a r) (z r) ⊎ IsSumWithout (r ∷ vs) a r (z r)
-        go (inl e) = inr (one_end (r ∷ vs) a p r (signed b (Plus k.0)) (z r) distinct_with (inr h.left) (λ q. apart p r vs h.left h.fresh (sym q)) (λ c. own c ∙ (ap (λ (v : WholeParts). turn b (part c v)) (same p h.left ∙ (k.1 ∙ e)) ∙ sym (worth_signed c b (Plus k.0) (a p)))))
+        go : ((end k.0 (n p) ≡ end k.0 (a p)) ⊎ (end k.0 (n p) ≡ end k.0 (span_with_sign b (a r)))) → IsEnd (a r) (z r) ⊎ IsSumWithout (r ∷ vs) a r (z r)
+        go (inl e) = inr (one_end (r ∷ vs) a p r (signed b (Plus k.0)) (z r) distinct_with (inr h.left) (λ q. apart p r vs h.left h.fresh (sym q)) (λ c. own c ∙ (ap (λ (v : WholeParts). number_with_sign b (part c v)) (same p h.left ∙ (k.1 ∙ e)) ∙ sym (worth_signed c b (Plus k.0) (a p)))))
         go (inr e) = inl (turned_end b k.0 (a r) (z p) (z r) (same p h.left ∙ (k.1 ∙ e)) own)
 
     signed_left : (v : ℕ) → IsIn v vs → ((v ≡ p) ⊎ (v ≡ p → ⊥)) → (IsEnd (n v) (y v) ⊎ IsSumWithout vs n v (y v)) → IsEnd (a v) (z v) ⊎ IsSumWithout (r ∷ vs) a v (z v)
@@ -166,8 +166,8 @@ module _ (g : Graph) (vs : List ℕ) (a n : ℕ → Span) (r p : ℕ) (b lo hi :
     meets_row c =
         let o : g.weigh r r *ℤ part c (z r) ≡ pos 0 = no_weight _ _ (g.points r r h.row) in
         let e : sum_over vs (λ v. g.weigh r v *ℤ part c (z v)) ≡ g.weigh r p *ℤ part c (z p) = sum_single vs p _ d h.left (λ v i m. no_weight _ _ (h.others v i m)) in
-        let f : g.weigh r p *ℤ part c (z p) ≡ turn b (part c (z p)) = rw h.weight (weight_times b (part c (z p))) in
-        let k : part c (z r) ≡ turn b (part c (z p)) = own c in
+        let f : g.weigh r p *ℤ part c (z p) ≡ number_with_sign b (part c (z p)) = rw h.weight (weight_times b (part c (z p))) in
+        let k : part c (z r) ≡ number_with_sign b (part c (z p)) = own c in
         omega (arith, ints)
 
     meets_left : (q : ℕ) (c : Bool) → IsIn q vs → g.is_row q ≡ true → part c (z q) ≡ g.weigh q r *ℤ part c (z r) +ℤ sum_over vs (λ v. g.weigh q v *ℤ part c (z v))
@@ -177,7 +177,7 @@ module _ (g : Graph) (vs : List ℕ) (a n : ℕ → Span) (r p : ℕ) (b lo hi :
         let f : part c (z q) ≡ sum_over vs (λ v. g.weigh q v *ℤ part c (y v)) = ap (part c) (same q i) ∙ s.meets q i k c in
         omega (arith, ints)
 
-    pub row_settles : Settles g (r ∷ vs) a z
+    pub row_settles : AreVertexValues g (r ∷ vs) a z
     row_settles = record { within = within_all; meets = meets_all; signed = signed_all }
       where
         within_all : (v : ℕ) → IsIn v (r ∷ vs) → IsWithin (a v) (z v)
@@ -192,7 +192,7 @@ module _ (g : Graph) (vs : List ℕ) (a n : ℕ → Span) (r p : ℕ) (b lo hi :
         signed_all v (inl e) = rw e (signed_row (s.signed p h.left))
         signed_all v (inr i) = signed_left v i (cases_eq v p) (s.signed v i)
 
-  module _ (x u : ℕ → ℤ) (k : Refutes g vs n x) (same : (v : ℕ) → IsIn v vs → v ≢ p → u v ≡ x v) (balance : u p +ℤ turn b (u r) ≡ x p) (ends : (c : Bool) → bound c (x p) (n p) ≡ bound c (u p) (a p) +ℤ bound c (u r) (a r)) (units : (v : ℕ) → IsUnit (u v)) where
+  module _ (x u : ℕ → ℤ) (k : Refutes g vs n x) (same : (v : ℕ) → IsIn v vs → v ≢ p → u v ≡ x v) (balance : u p +ℤ number_with_sign b (u r) ≡ x p) (ends : (c : Bool) → bound c (x p) (n p) ≡ bound c (u p) (a p) +ℤ bound c (u r) (a r)) (units : (v : ℕ) → IsUnit (u v)) where
     bounds_sum : (c : Bool) → sum_over (r ∷ vs) (λ v. bound c (u v) (a v)) ≡ sum_over vs (λ v. bound c (x v) (n v))
     bounds_sum c =
         let f : sum_over vs (λ v. bound c (u v) (a v)) +ℤ bound c (x p) (n p) ≡ sum_over vs (λ v. bound c (x v) (n v)) +ℤ bound c (u p) (a p) = sum_change vs p (λ v. bound c (u v) (a v)) (λ v. bound c (x v) (n v)) d h.left (λ v i m. rw (same v i m, kept v i m)) in
@@ -209,7 +209,7 @@ module _ (g : Graph) (vs : List ℕ) (a n : ℕ → Span) (r p : ℕ) (b lo hi :
     cancels_left q i o (inl e) =
         let f : x p +ℤ sum_over vs (λ v. g.weigh v p *ℤ x v) ≡ pos 0 = k.cancels p h.left h.point in
         let w : sum_over vs (λ v. g.weigh v p *ℤ u v) ≡ sum_over vs (λ v. g.weigh v p *ℤ x v) = rows_sum p in
-        let m : g.weigh r p *ℤ u r ≡ turn b (u r) = rw h.weight (weight_times b (u r)) in
+        let m : g.weigh r p *ℤ u r ≡ number_with_sign b (u r) = rw h.weight (weight_times b (u r)) in
         rw e (omega (arith, ints, balance))
     cancels_left q i o (inr e) =
         let f : x q +ℤ sum_over vs (λ v. g.weigh v q *ℤ x v) ≡ pos 0 = k.cancels q i o in

@@ -5,12 +5,12 @@ use Rattle.std.proofs.lemmas.List.{get_or_read, get_or-set_same, get_or-set_othe
 use Rattle.xc_forest.specs.declared.tallies.Tally.{Tally}
 use Rattle.xc_forest.specs.Forests.{points_of, row_at, AreRows}
 use Rattle.xc_lists.specs.Members.{IsIn}
-use Rattle.xc_forest.specs.Steps.Counted.{counted, tally_at, bit, HasRoomAt}
+use Rattle.xc_forest.specs.Steps.Counted.{tally_with_edge, tally_at, bit, HasRoomAt}
 use Rattle.xc_forest.specs.Steps.Edges.{Edge, edges_from, edges_of_row, Joins, AreTalliesWith, IsTallyWith, AreFew, AreTallies}
 use Rattle.xc_forest.proofs.LastEdges.{one_at, one_away}
 
 module _ (es left : List Edge) (e : Edge) (x : ℕ) (t : Tally) (w : IsTallyWith es (e ∷ left) x t) where
-  counted_at : (y : ℕ) → Joins e x y → ¬ (x ≡ y) → IsTallyWith es left x (counted t y e.minus)
+  counted_at : (y : ℕ) → Joins e x y → ¬ (x ≡ y) → IsTallyWith es left x (tally_with_edge t y e.minus)
   counted_at y j m =
       let o = one_at e x y j m in
       record {
@@ -35,7 +35,7 @@ module _ (es left : List Edge) (e : Edge) (x : ℕ) (t : Tally) (w : IsTallyWith
 
 -- an edge is counted at both ends
 pub with_edge : (es left : List Edge) (ts : List Tally) (e : Edge) (first second : Tally) → AreTalliesWith es (e ∷ left) ts → ¬ (e.point ≡ e.row) → e.point < length ts → e.row < length ts
-    → first ≡ counted (tally_at ts e.point) e.row e.minus → second ≡ counted (tally_at (set ts e.point first) e.row) e.point e.minus
+    → first ≡ tally_with_edge (tally_at ts e.point) e.row e.minus → second ≡ tally_with_edge (tally_at (set ts e.point first) e.row) e.point e.minus
     → AreTalliesWith es left (set (set ts e.point first) e.row second)
 with_edge es left ts e first second h apart point row is_first is_second x d l = go (cases_eq x e.row) (cases_eq x e.point)
   where

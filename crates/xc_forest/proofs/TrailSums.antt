@@ -4,7 +4,7 @@ use Rattle.std.proofs.lemmas.Int.{ints}
 use Rattle.xc_forest.specs.Forests.{Neither, Plus}
 use Rattle.xc_lists.specs.Members.{IsIn, IsOnce}
 use Rattle.xc_forest.specs.Steps.Trails.{IsTrail, start, took_point, took_row, took_alone}
-use Rattle.xc_forest.specs.Steps.Vertices.{sum_over, Span, end, worth, lessened, turned, Graph, IsMeet, IsLeafPoint, IsLeafRow, IsSum, IsEnd, IsSumWithout}
+use Rattle.xc_forest.specs.Steps.Vertices.{sum_over, Span, end, worth, row_without_point, span_with_sign, Graph, IsMeet, IsLeafPoint, IsLeafRow, IsSum, IsEnd, IsSumWithout}
 use Rattle.xc_forest.specs.declared.undos.Undo.{Undo}
 use Rattle.xc_forest.proofs.Sums.{sum_same, sum_single, apart}
 use Rattle.xc_forest.proofs.Points.{put, put_same, put_other, moved}
@@ -21,10 +21,10 @@ pub signed_sum : (vs : List ℕ) (a : ℕ → Span) (v : ℕ) (x : WholeParts) �
 signed_sum vs a v x d i (inr s) = record { choice = s.choice; is = s.is }
 signed_sum vs a v x d i (inl e) = rw e.1 (end_sum vs a v e.0 d i)
 
-point_sum : (g : Graph) (vs : List ℕ) (a n : ℕ → Span) (p r : ℕ) (b : Bool) → IsOnce vs → IsLeafPoint g vs p r b → n r ≡ lessened b (a r) (a p) → ((v : ℕ) → IsIn v vs → v ≢ r → n v ≡ a v) → (x : WholeParts) → IsSum vs n x → IsSum (p ∷ vs) a x
+point_sum : (g : Graph) (vs : List ℕ) (a n : ℕ → Span) (p r : ℕ) (b : Bool) → IsOnce vs → IsLeafPoint g vs p r b → n r ≡ row_without_point b (a r) (a p) → ((v : ℕ) → IsIn v vs → v ≢ r → n v ≡ a v) → (x : WholeParts) → IsSum vs n x → IsSum (p ∷ vs) a x
 point_sum g vs a n p r b d h less kept x s = record { choice = put p (moved b (s.choice r)) s.choice; is = λ c. s.is c ∙ Points.sum_with g vs a n p r b d h less kept c s.choice }
 
-row_sum : (g : Graph) (vs : List ℕ) (a n : ℕ → Span) (r p : ℕ) (b lo hi : Bool) → IsOnce vs → IsLeafRow g vs r p b → IsMeet lo hi (a p) (turned b (a r)) (n p) → ((v : ℕ) → IsIn v vs → v ≢ p → n v ≡ a v) → (x : WholeParts) → IsSum vs n x → IsSum (r ∷ vs) a x
+row_sum : (g : Graph) (vs : List ℕ) (a n : ℕ → Span) (r p : ℕ) (b lo hi : Bool) → IsOnce vs → IsLeafRow g vs r p b → IsMeet lo hi (a p) (span_with_sign b (a r)) (n p) → ((v : ℕ) → IsIn v vs → v ≢ p → n v ≡ a v) → (x : WholeParts) → IsSum vs n x → IsSum (r ∷ vs) a x
 row_sum g vs a n r p b lo hi d h met kept x s =
     let t = taken lo hi b (a p) (a r) (n p) (s.choice p) met in
     record { choice = put r t.1 (put p t.0 s.choice); is = λ c. s.is c ∙ RowSteps.sum_with g vs a n r p b lo hi d h met kept c s.choice t.0 t.1 t.2 }

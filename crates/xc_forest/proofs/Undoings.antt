@@ -3,13 +3,13 @@ use Rattle.std.proofs.Common.{◌≡◌, ◌≢◌, ℕ, ◌+◌, ◌<◌, Bool,
 use Rattle.std.specs.Prelude.{reverse}
 use Rattle.std.proofs.lemmas.Bool.{cases_eq, false≢true}
 use Rattle.std.proofs.lemmas.List.{get_or-set_same, get_or-set_other, length-set, get_or_append_left, get_or_push, length_push}
-use Rattle.xc_forest.specs.Forests.{HasRoom, IsSignedSum, turn, ranges_of}
+use Rattle.xc_forest.specs.Forests.{HasRoom, IsSignedSum, number_with_sign, ranges_of}
 use Rattle.xc_lists.specs.Members.{IsIn, IsOnce}
 use Rattle.xc_forest.specs.Steps.Links.{graph_of, vertices, IsListing}
 use Rattle.xc_forest.specs.Steps.Scaled.{scale_of, first_spans, AreBoundsOver, AreValuesOver}
-use Rattle.xc_forest.specs.Steps.Splits.{AreSplitOver, CanSplit, turned_pair}
+use Rattle.xc_forest.specs.Steps.Splits.{AreSplitOver, CanSplit, pair_with_sign}
 use Rattle.xc_forest.specs.Steps.Trails.{IsTrail, start, took_point, took_row, took_alone, IsTrailOf, IsLoneValue, AreSettled, with_point, with_row, with_alone}
-use Rattle.xc_forest.specs.Steps.Vertices.{no_parts, Graph, Span, part, IsWithin, IsNonempty, IsLeafPoint, IsLeafRow, IsAlone, IsMeet, lessened, turned, Settles}
+use Rattle.xc_forest.specs.Steps.Vertices.{no_parts, Graph, Span, part, IsWithin, IsNonempty, IsLeafPoint, IsLeafRow, IsAlone, IsMeet, row_without_point, span_with_sign, AreVertexValues}
 use Rattle.xc_forest.specs.declared.links.Link.{Link}
 use Rattle.xc_forest.specs.declared.spans.Bounds.{Bounds}
 use Rattle.xc_forest.specs.declared.types.Forest.{Forest}
@@ -35,7 +35,7 @@ module _ {E : Type 0} (parts : E → Parts) (d : ℕ) (g : Graph) (ws : List ℕ
     pub leaf : IsLeafPoint g vs p r b
     pub of_row : AreBoundsOver parts d x (before r)
     pub of_point : AreBoundsOver parts d y (before p)
-    pub less : n r ≡ lessened b (before r) (before p)
+    pub less : n r ≡ row_without_point b (before r) (before p)
     pub kept : (v : ℕ) → IsIn v vs → v ≢ r → n v ≡ before v
     pub some_row : IsNonempty (before r)
     pub some_point : IsNonempty (before p)
@@ -47,7 +47,7 @@ module _ {E : Type 0} (parts : E → Parts) (d : ℕ) (g : Graph) (ws : List ℕ
     pub before : ℕ → Span
     pub trail : IsTrail parts d g ws o us (r ∷ vs) before
     pub leaf : IsLeafRow g vs r p b
-    pub meet : IsMeet lo hi (before p) (turned b (before r)) (n p)
+    pub meet : IsMeet lo hi (before p) (span_with_sign b (before r)) (n p)
     pub kept : (v : ℕ) → IsIn v vs → v ≢ p → n v ≡ before v
 
   pub row_taken : (us : List (Undo E)) (r p : ℕ) (b lo hi : Bool) (vs : List ℕ) (n : ℕ → Span) → IsTrail parts d g ws o (undo.Row r p b lo hi ∷ us) vs n → RowTaken us r p b lo hi vs n
@@ -127,7 +127,7 @@ module _ {E : Type 0} (parts : E → Parts) (forest : Forest E) (links : List Li
         rest_over : ArePartsOver (parts e) (h.value r) scale
         rest_over = subst (λ (f : E). ArePartsOver (parts f) (h.value r) scale) (sym is) (h.hold r e point_row_known)
 
-        rest_within : IsWithin (lessened b (taken_point.before r) (taken_point.before p)) (h.value r)
+        rest_within : IsWithin (row_without_point b (taken_point.before r) (taken_point.before p)) (h.value r)
         rest_within = let t = taken_point in subst (λ (a : Span). IsWithin a (h.value r)) t.less (h.settles.within r t.leaf.left)
 
         pub can_split : (passes : Op → E → E → Wide → Type 0) → HasRoom parts passes (ranges_of parts forest.ranges) → CanSplit passes b x y e
@@ -141,7 +141,7 @@ module _ {E : Type 0} (parts : E → Parts) (forest : Forest E) (links : List Li
             go false low row_low row_high rest = ((λ w. (room e y.low rest low w).0), (λ w. (room x.low e row_low rest w).1))
             go true low row_low row_high rest = ((λ w. (room e y.low rest low w).1), (λ w. (room e x.high rest row_high w).1))
 
-        pub point_back : (row_value point_value : E) → ((u v : Span) (t : WholeParts) (k : ℕ) → AreBoundsOver parts k x u → AreBoundsOver parts k y v → ArePartsOver (parts e) t k → IsNonempty u → IsNonempty v → IsWithin (lessened b u v) t → AreSplitOver parts k b u v t row_value point_value)
+        pub point_back : (row_value point_value : E) → ((u v : Span) (t : WholeParts) (k : ℕ) → AreBoundsOver parts k x u → AreBoundsOver parts k y v → ArePartsOver (parts e) t k → IsNonempty u → IsNonempty v → IsWithin (row_without_point b u v) t → AreSplitOver parts k b u v t row_value point_value)
             → AreSettled parts forest links undos (set (set values r row_value) p point_value)
         point_back row_value point_value made =
             let t = taken_point in
@@ -170,11 +170,11 @@ module _ {E : Type 0} (parts : E → Parts) (forest : Forest E) (links : List Li
     pub row_point_known : p < length values
     row_point_known = let t = taken_row in below (length values) h.each (r ∷ h.left) t.before t.trail p (inr t.leaf.left)
 
-    pub row_back : (e f : E) → e ≡ get_or values p e → ((a : WholeParts) (k : ℕ) → ArePartsOver (parts e) a k → ArePartsOver (parts f) (turned_pair b a) k) → AreSettled parts forest links undos (set values r f)
+    pub row_back : (e f : E) → e ≡ get_or values p e → ((a : WholeParts) (k : ℕ) → ArePartsOver (parts e) a k → ArePartsOver (parts f) (pair_with_sign b a) k) → AreSettled parts forest links undos (set values r f)
     row_back e f is made =
         let t = taken_row in
         let over : ArePartsOver (parts e) (h.value p) scale = subst (λ (x : E). ArePartsOver (parts x) (h.value p) scale) (sym is) (h.hold p e row_point_known) in
-        let x : WholeParts = turned_pair b (h.value p) in
+        let x : WholeParts = pair_with_sign b (h.value p) in
         let z : ℕ → WholeParts = put r x h.value in
         let zp : z p ≡ h.value p = put_other r p x h.value (apart p r h.left t.leaf.left t.leaf.fresh) in
         let zr : z r ≡ x = put_same r x h.value in
@@ -188,7 +188,7 @@ module _ {E : Type 0} (parts : E → Parts) (forest : Forest E) (links : List Li
           each = length-set values r f ∙ h.each;
         }
       where
-        each_part : (c : Bool) → part c (turned_pair b (h.value p)) ≡ turn b (part c (h.value p))
+        each_part : (c : Bool) → part c (pair_with_sign b (h.value p)) ≡ number_with_sign b (part c (h.value p))
         each_part false = refl
         each_part true = refl
 
@@ -218,7 +218,7 @@ module _ {E : Type 0} (parts : E → Parts) (forest : Forest E) (links : List Li
         x : WholeParts
         x = taken_alone.value
 
-        settled : Settles graph h.left h.now (put w x h.value)
+        settled : AreVertexValues graph h.left h.now (put w x h.value)
         settled = record {
           within = λ v i. rw (same v i) (h.settles.within v i);
           meets = λ q i r c. ap (part c) (same q i) ∙ (h.settles.meets q i r c ∙ sum_same h.left _ _ (λ v j. rw (same v j)));
@@ -232,6 +232,6 @@ module _ {E : Type 0} (parts : E → Parts) (forest : Forest E) (links : List Li
         zero_part false = refl
         zero_part true = refl
 
-        go : (s : Bool) → graph.is_row w ≡ s → IsLoneValue s (h.now w) x → Settles graph (w ∷ h.left) h.now (put w x h.value)
+        go : (s : Bool) → graph.is_row w ≡ s → IsLoneValue s (h.now w) x → AreVertexValues graph (w ∷ h.left) h.now (put w x h.value)
         go false q k = alone_settles graph h.left h.now w taken_alone.lone (put w x h.value) settled (rw (put_same w x h.value, k) (record { low = le_refl (h.now w).low; high = taken_alone.some })) (inl (false, put_same w x h.value ∙ k)) (λ r. absurd (false≢true (sym q ∙ r)))
         go true q k = alone_settles graph h.left h.now w taken_alone.lone (put w x h.value) settled (rw (put_same w x h.value, k.0) (rw k.0 at k.1)) (rw (put_same w x h.value, k.0) (inr (no_ends (w ∷ h.left) h.now w no_parts zero_part))) (λ r c. rw (put_same w x h.value, k.0) (zero_part c))

@@ -3,18 +3,18 @@ use Rattle.std.proofs.Common.{◌≡◌, ℕ, ◌+◌, ◌-◌, ◌<◌, ◌≤�
 use Rattle.std.proofs.lemmas.Int.{ints}
 use Rattle.std.proofs.lemmas.Bool.{eq-eqb, ne_eqb}
 use Rattle.std.proofs.lemmas.Bool.Decides.{nat_tests}
-use Rattle.xc_forest.specs.Forests.{points_of, row_at, row_sum, unit_at, turn, AreRows, IsPointOf, IsNext}
+use Rattle.xc_forest.specs.Forests.{points_of, row_at, row_sum, unit_at, number_with_sign, AreRows, IsPointOf, IsNext}
 use Rattle.xc_lists.specs.Members.{IsIn, IsOnce}
 use Rattle.xc_forest.specs.Steps.Edges.{Edge, edges_from, IsEdgeIn, Joins}
 use Rattle.xc_forest.specs.Steps.Links.{is_row_of, weigh_of}
 use Rattle.xc_forest.specs.Steps.Vertices.{weight}
 use Rattle.xc_forest.proofs.EdgeLists.{entry_of_point, point_of_entry, edge_of_row, IsOfRow, row_of_edge}
 
-turn_zero : (b : Bool) → turn b (pos 0) ≡ pos 0
+turn_zero : (b : Bool) → number_with_sign b (pos 0) ≡ pos 0
 turn_zero false = refl
 turn_zero true = refl
 
-turn_one : (b : Bool) → turn b (pos 1) ≡ weight b
+turn_one : (b : Bool) → number_with_sign b (pos 1) ≡ weight b
 turn_one false = refl
 turn_one true = refl
 

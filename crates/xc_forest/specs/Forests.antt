@@ -94,14 +94,14 @@ HasRoom {E} parts passes ranges = (x y : E) → IsSignedSum ranges (parts x) →
 -- ---- solutions
 
 -- x, or - x
-abbrev pub signed : Bool → Parts → Parts
-signed false x = x
-signed true x = neg_parts x
+abbrev pub parts_with_sign : Bool → Parts → Parts
+parts_with_sign false x = x
+parts_with_sign true x = neg_parts x
 
 -- the signed sum of a row over the values of its points
 abbrev pub row_total : List (ℕ × Bool) → (ℕ → Parts) → Parts
 row_total [] z = zero_parts
-row_total (entry ∷ row) z = sum_parts (signed entry.1 (z entry.0)) (row_total row z)
+row_total (entry ∷ row) z = sum_parts (parts_with_sign entry.1 (z entry.0)) (row_total row z)
 
 -- value p; 0 where there is none
 abbrev pub value_at : List Parts → ℕ → Parts
@@ -121,9 +121,9 @@ abbrev pub IsUnit : ℤ → Type 0
 IsUnit k = (k ≡ pos 0) ⊎ ((k ≡ pos 1) ⊎ (k ≡ negsuc 0))
 
 -- k, or - k
-abbrev pub turn : Bool → ℤ → ℤ
-turn false k = k
-turn true k = neg_ℤ k
+abbrev pub number_with_sign : Bool → ℤ → ℤ
+number_with_sign false k = k
+number_with_sign true k = neg_ℤ k
 
 -- f 0 + .. + f (n - 1)
 abbrev pub sum_below : ℕ → (ℕ → ℤ) → ℤ
@@ -133,7 +133,7 @@ sum_below (suc n) f = sum_below n f +ℤ f n
 -- the signed sum of a row over whole numbers
 abbrev pub row_sum : List (ℕ × Bool) → (ℕ → ℤ) → ℤ
 row_sum [] x = pos 0
-row_sum (entry ∷ row) x = turn entry.1 (x entry.0) +ℤ row_sum row x
+row_sum (entry ∷ row) x = number_with_sign entry.1 (x entry.0) +ℤ row_sum row x
 
 -- 1 at p, and 0 elsewhere
 abbrev pub unit_at : ℕ → ℕ → ℤ

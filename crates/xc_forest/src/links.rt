@@ -36,7 +36,7 @@ pub(crate) fn links(
     let mut links = Vec::new(alloc);
     let mut k = 0;
     while k < order.len() {
-        let link = taken(&mut order, tallies.as_mut_slice(), k, points, rows)?;
+        let link = peel_vertex(&mut order, tallies.as_mut_slice(), k, points, rows)?;
         links.push(link)?;
         k += 1;
     }
@@ -58,7 +58,7 @@ fn leaves(alloc: Global, tallies: &[Tally]) -> Result<Vec<u32>, Memory>
 }
 
 // Takes away vertex k of the order. A vertex that it leaves with one edge is put at the end of the order.
-fn taken(
+fn peel_vertex(
     order: &mut Vec<u32>,
     tallies: &mut [Tally],
     k: usize,

@@ -1,6 +1,6 @@
 // Multipliers that refute a forest: what was done while its vertices were taken away is undone.
 ghost use Rattle.std.specs.Prelude.{◌≡◌, ℕ, ◌+◌, ◌<◌, ◌∷◌, [], ◌++◌, ◌^◌, Bool, not, IfOk, length};
-ghost use Rattle.xc_forest.specs.Forests.{IsUnit, multiplier_at, turn};
+ghost use Rattle.xc_forest.specs.Forests.{IsUnit, multiplier_at, number_with_sign};
 ghost use Rattle.xc_forest.specs.Steps.Links.{IsListing, graph_of};
 ghost use Rattle.xc_forest.specs.Steps.Shares.{IsShare, AreZero};
 ghost use Rattle.xc_forest.specs.Steps.Trails.{AreRefuted, IsClash, with_alone, with_point, with_row};
@@ -28,20 +28,20 @@ pub(crate) fn multipliers<E: Exact>(
     ensures { IfOk result (λ multipliers. AreRefuted E.parts forest.now links.now [] multipliers.items) }
 {
     let mut undos = undos;
-    let mut multipliers = zeros(
+    let mut multipliers = zero_multipliers(
         alloc,
         forest.ranges.as_slice().len() + forest.rows.as_slice().len(),
     )?;
     multipliers[clash.point as usize] = clash.point_by;
     multipliers[clash.row as usize] = clash.row_by;
     while let Some(undo) = undos.pop() {
-        put_back(forest, links, undos.as_slice(), &mut multipliers, undo);
+        put_multiplier_back(forest, links, undos.as_slice(), &mut multipliers, undo);
     }
     Ok(multipliers)
 }
 
 // As many multipliers of 0.
-fn zeros(alloc: Global, count: usize) -> Result<Vec<i8>, Memory>
+fn zero_multipliers(alloc: Global, count: usize) -> Result<Vec<i8>, Memory>
     ensures each { IfOk result (λ multipliers. length multipliers.items ≡ count) }
     ensures zero { IfOk result (λ multipliers. AreZero multipliers.items) }
 {
@@ -53,7 +53,7 @@ fn zeros(alloc: Global, count: usize) -> Result<Vec<i8>, Memory>
 }
 
 // Undoes one step, the last that is left.
-fn put_back<E: Exact>(
+fn put_multiplier_back<E: Exact>(
     forest: &Forest<E>,
     links: &[Link],
     undos: &[Undo<E>],
@@ -71,7 +71,7 @@ fn put_back<E: Exact>(
             minus,
             of_row,
             of_point,
-        } => put_point(
+        } => put_point_multiplier(
             forest,
             links,
             undos,
@@ -88,7 +88,7 @@ fn put_back<E: Exact>(
             minus,
             low_of_row,
             high_of_row,
-        } => put_row(
+        } => put_row_multiplier(
             forest,
             links,
             undos,
@@ -99,7 +99,7 @@ fn put_back<E: Exact>(
             low_of_row,
             high_of_row,
         ),
-        Undo::Alone { vertex, value } => put_alone(
+        Undo::Alone { vertex, value } => put_lone_multiplier(
             forest,
             links,
             undos,
@@ -111,7 +111,7 @@ fn put_back<E: Exact>(
 }
 
 // Puts a point back: its end stands in that of its row.
-fn put_point<E: Exact>(
+fn put_point_multiplier<E: Exact>(
     forest: &Forest<E>,
     links: &[Link],
     undos: &[Undo<E>],
@@ -133,13 +133,13 @@ fn put_point<E: Exact>(
 // The negative of a multiplier, or itself for a minus sign.
 fn opposite(minus: bool, by: i8) -> i8
     requires { IsUnit by }
-    ensures { result ≡ turn (not minus) by }
+    ensures { result ≡ number_with_sign (not minus) by }
 {
     if minus { by } else { -by }
 }
 
 // Puts a row back: an end of its last point is the point's own, or the row's.
-fn put_row<E: Exact>(
+fn put_row_multiplier<E: Exact>(
     forest: &Forest<E>,
     links: &[Link],
     undos: &[Undo<E>],
@@ -160,7 +160,7 @@ fn put_row<E: Exact>(
 }
 
 // Puts a vertex without neighbours back.
-fn put_alone<E: Exact>(
+fn put_lone_multiplier<E: Exact>(
     forest: &Forest<E>,
     links: &[Link],
     undos: &[Undo<E>],

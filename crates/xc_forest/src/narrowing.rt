@@ -7,7 +7,7 @@ ghost use Rattle.xc_forest.specs.Steps.Scaled.{AreBoundsOver, AreSpansOver, firs
 ghost use Rattle.xc_forest.specs.Steps.Trails.{IsClash, IsNarrowed, point_clash, row_clash};
 
 use crate::links::Link;
-use crate::spans::{Bounds, is_empty, is_less, lessened, meet, turned};
+use crate::spans::{Bounds, is_empty, is_less, meet, row_without_point, span_with_sign};
 use crate::types::Forest;
 use crate::undos::{Clash, Undo};
 use std::alloc::Global;
@@ -49,7 +49,7 @@ fn point_spans<E: Exact>(alloc: Global, ranges: &[Interval<E>]) -> Result<Vec<Bo
 }
 
 /// Takes all vertices away; or gives the multipliers of two whose spans do not meet.
-pub(crate) fn narrowed<E: Exact>(
+pub(crate) fn take_vertices<E: Exact>(
     forest: &Forest<E>,
     links: &[Link],
     spans: &mut Vec<Bounds<E>>,
@@ -62,7 +62,7 @@ pub(crate) fn narrowed<E: Exact>(
         (IsClash E.parts forest.now links.now undos.new.items)) }
 {
     for k in 0..links.len() {
-        if let Some(clash) = turn(forest, links, k, spans, undos)? {
+        if let Some(clash) = take_vertex(forest, links, k, spans, undos)? {
             return Ok(Some(clash));
         }
     }
@@ -70,7 +70,7 @@ pub(crate) fn narrowed<E: Exact>(
 }
 
 // Takes vertex k away.
-fn turn<E: Exact>(
+fn take_vertex<E: Exact>(
     forest: &Forest<E>,
     links: &[Link],
     k: usize,
@@ -164,7 +164,7 @@ fn take_point<E: Exact>(
     let link = links[k];
     let of_row = spans[link.next as usize];
     let of_point = spans[link.vertex as usize];
-    spans[link.next as usize] = lessened(link.minus, of_row, of_point);
+    spans[link.next as usize] = row_without_point(link.minus, of_row, of_point);
     undos.push(Undo::Point {
         point: link.vertex,
         row: link.next,
@@ -194,7 +194,7 @@ fn take_row<E: Exact>(
     let link = links[k];
     let of_row = spans[link.vertex as usize];
     let of_point = spans[link.next as usize];
-    let common = meet(of_point, turned(link.minus, of_row));
+    let common = meet(of_point, span_with_sign(link.minus, of_row));
     let bounds = common.bounds;
     if is_empty(bounds) {
         return Ok(Some(clash_of(link, common.low_of_second)));

@@ -7,7 +7,7 @@ ghost use Rattle.xc_forest.specs.Steps.Trails.{AreAllTaken, IsClash};
 
 use crate::links::{Link, links};
 use crate::multipliers::multipliers;
-use crate::narrowing::{first_spans, narrowed};
+use crate::narrowing::{first_spans, take_vertices};
 use crate::types::{Forest, Settled};
 use crate::undos::{Clash, Undo};
 use crate::values::values;
@@ -19,7 +19,7 @@ use xc_lists::{Items, Memory};
 /// multipliers that contradict it. Nothing else is answered but want of memory.
 ///
 /// Every row names ranges, each once; points and rows make no cycle; each range has both its ends and some value;
-/// and no sum or difference of two signed sums passes. The time grows with the number of entries alone.
+/// and no sum or difference of two signed sums passes.
 pub fn propagate<E: Exact>(alloc: Global, forest: &Forest<E>) -> Result<Settled<E>, Memory>
     requires points { length forest.now.ranges < 2 ^ 31 }
     requires few { length forest.now.rows < 2 ^ 31 }
@@ -31,11 +31,11 @@ pub fn propagate<E: Exact>(alloc: Global, forest: &Forest<E>) -> Result<Settled<
 {
     let points = forest.ranges.as_slice().len() as u32;
     let links = links(alloc, points, forest.rows.as_slice())?;
-    settled(alloc, forest, links.as_slice())
+    settle_in_order(alloc, forest, links.as_slice())
 }
 
 // The same, by the order of the vertices.
-fn settled<E: Exact>(
+fn settle_in_order<E: Exact>(
     alloc: Global,
     forest: &Forest<E>,
     links: &[Link],
@@ -50,14 +50,14 @@ fn settled<E: Exact>(
 {
     let mut spans = first_spans(alloc, forest)?;
     let mut undos = Vec::new(alloc);
-    match narrowed(forest, links, &mut spans, &mut undos)? {
-        None => feasible(alloc, forest, links, undos),
-        Some(clash) => infeasible(alloc, forest, links, undos, clash),
+    match take_vertices(forest, links, &mut spans, &mut undos)? {
+        None => settle_by_values(alloc, forest, links, undos),
+        Some(clash) => settle_by_multipliers(alloc, forest, links, undos, clash),
     }
 }
 
 // The values of the points, once no vertex is left.
-fn feasible<E: Exact>(
+fn settle_by_values<E: Exact>(
     alloc: Global,
     forest: &Forest<E>,
     links: &[Link],
@@ -78,7 +78,7 @@ fn feasible<E: Exact>(
 }
 
 // The multipliers of rows and points that contradict, from those of two vertices whose spans do not meet.
-fn infeasible<E: Exact>(
+fn settle_by_multipliers<E: Exact>(
     alloc: Global,
     forest: &Forest<E>,
     links: &[Link],

@@ -2,7 +2,7 @@
 ghost use Rattle.std.specs.Prelude.{◌≡◌, ℕ, Bool, if◌then◌else◌};
 ghost use Rattle.xc_forest.specs.Steps.Scaled.{AreBoundsOver};
 ghost use Rattle.xc_forest.specs.Steps.Spans.{CanLessen, TellsLess};
-ghost use Rattle.xc_forest.specs.Steps.Vertices.{Span, IsMeet, lessened, turned};
+ghost use Rattle.xc_forest.specs.Steps.Vertices.{Span, IsMeet, row_without_point, span_with_sign};
 ghost use Rattle.xc_frac.specs.declared.wide.Op.{Op};
 ghost use Rattle.xc_frac.specs.declared.wide.Wide.{Wide};
 ghost use Rattle.xc_model.specs.Parts.{WholeParts, ArePartsOver, whole_sum, whole_difference, whole_neg};
@@ -50,10 +50,14 @@ pub(crate) fn difference<E: Exact>(x: E, y: E) -> E
 }
 
 /// The span of a row less that of a point, or, for a minus sign, together with it.
-pub(crate) fn lessened<E: Exact>(minus: bool, row: Bounds<E>, point: Bounds<E>) -> Bounds<E>
+pub(crate) fn row_without_point<E: Exact>(
+    minus: bool,
+    row: Bounds<E>,
+    point: Bounds<E>,
+) -> Bounds<E>
     requires { CanLessen E.passes minus row point }
     ensures { (x y : Span) (d : ℕ) → AreBoundsOver E.parts d row x → AreBoundsOver E.parts d point y
-        → AreBoundsOver E.parts d result (lessened minus x y) }
+        → AreBoundsOver E.parts d result (row_without_point minus x y) }
 {
     if minus {
         Bounds {
@@ -69,8 +73,8 @@ pub(crate) fn lessened<E: Exact>(minus: bool, row: Bounds<E>, point: Bounds<E>) 
 }
 
 /// The negatives of what is in a span, for a minus sign.
-pub(crate) fn turned<E: Exact>(minus: bool, bounds: Bounds<E>) -> Bounds<E>
-    ensures { (x : Span) (d : ℕ) → AreBoundsOver E.parts d bounds x → AreBoundsOver E.parts d result (turned minus x) }
+pub(crate) fn span_with_sign<E: Exact>(minus: bool, bounds: Bounds<E>) -> Bounds<E>
+    ensures { (x : Span) (d : ℕ) → AreBoundsOver E.parts d bounds x → AreBoundsOver E.parts d result (span_with_sign minus x) }
 {
     if minus {
         Bounds {
@@ -91,8 +95,8 @@ pub(crate) fn meet<E: Exact>(first: Bounds<E>, second: Bounds<E>) -> Common<E>
     let high_of_second = is_less(second.high, first.high);
     Common {
         bounds: Bounds {
-            low: chosen(low_of_second, first.low, second.low),
-            high: chosen(high_of_second, first.high, second.high),
+            low: second_if(low_of_second, first.low, second.low),
+            high: second_if(high_of_second, first.high, second.high),
         },
         low_of_second,
         high_of_second,
@@ -100,7 +104,7 @@ pub(crate) fn meet<E: Exact>(first: Bounds<E>, second: Bounds<E>) -> Common<E>
 }
 
 // One of two values.
-fn chosen<E: Exact>(is_second: bool, first: E, second: E) -> E
+fn second_if<E: Exact>(is_second: bool, first: E, second: E) -> E
     ensures { result ≡ (if is_second then second else first) }
 {
     if is_second { second } else { first }

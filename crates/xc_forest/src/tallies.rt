@@ -2,7 +2,7 @@
 ghost use Rattle.std.specs.Prelude.{◌≡◌, ℕ, ◌+◌, ◌<◌, ◌≤◌, ◌^◌, ◌∷◌, [], ◌++◌, Bool, IfOk, length, drop, slice_index_or, slice_set, if◌then◌else◌};
 ghost use Rattle.xc_forest.specs.Forests.{AreRows};
 ghost use Rattle.xc_forest.specs.Steps.Edges.{Edge, AreFew, AreTallies, AreTalliesWith, IsTally, edges_from, edges_of_row};
-ghost use Rattle.xc_forest.specs.Steps.Counted.{counted, tally_at, HasRoomAt};
+ghost use Rattle.xc_forest.specs.Steps.Counted.{tally_with_edge, tally_at, HasRoomAt};
 
 use std::alloc::Global;
 use xc_lists::{Items, Memory};
@@ -81,7 +81,7 @@ fn tally_row(tallies: &mut [Tally], points: u32, rows: &[Items<(u32, bool)>], i:
 fn tally_end(tallies: &mut [Tally], vertex: u32, other: u32, minus: bool)
     requires there { vertex < length tallies.old }
     requires room { HasRoomAt tallies.old vertex other minus }
-    ensures { tallies.new ≡ slice_set tallies.old vertex (counted (tally_at tallies.old vertex) other minus) }
+    ensures { tallies.new ≡ slice_set tallies.old vertex (tally_with_edge (tally_at tallies.old vertex) other minus) }
 {
     let tally = &mut tallies[vertex as usize];
     tally.degree += 1;

@@ -3,9 +3,9 @@ ghost use Rattle.std.specs.Prelude.{◌≡◌, ℕ, ◌+◌, ◌<◌, ◌∷◌,
 ghost use Rattle.xc_forest.specs.Forests.{HasRoom, ranges_of};
 ghost use Rattle.xc_forest.specs.Steps.Links.{IsListing, graph_of};
 ghost use Rattle.xc_forest.specs.Steps.Scaled.{AreBoundsOver, AreValuesOver, scale_of};
-ghost use Rattle.xc_forest.specs.Steps.Splits.{AreSplitOver, CanSplit, turned_pair};
+ghost use Rattle.xc_forest.specs.Steps.Splits.{AreSplitOver, CanSplit, pair_with_sign};
 ghost use Rattle.xc_forest.specs.Steps.Trails.{AreSettled, AreAllTaken, with_alone, with_point, with_row};
-ghost use Rattle.xc_forest.specs.Steps.Vertices.{Span, IsNonempty, IsWithin, lessened, no_parts};
+ghost use Rattle.xc_forest.specs.Steps.Vertices.{Span, IsNonempty, IsWithin, row_without_point, no_parts};
 ghost use Rattle.xc_model.specs.Parts.{WholeParts, ArePartsOver};
 
 use crate::links::Link;
@@ -31,15 +31,15 @@ pub(crate) fn values<E: Exact>(
     ensures { IfOk result (λ values. AreSettled E.parts forest.now links.now [] values.items) }
 {
     let mut undos = undos;
-    let mut values = zeros(alloc, forest)?;
+    let mut values = zero_values(alloc, forest)?;
     while let Some(undo) = undos.pop() {
-        put_back(forest, links, undos.as_slice(), &mut values, undo);
+        put_value_back(forest, links, undos.as_slice(), &mut values, undo);
     }
     Ok(values)
 }
 
 // A value of 0 for each vertex.
-fn zeros<E: Exact>(alloc: Global, forest: &Forest<E>) -> Result<Vec<E>, Memory>
+fn zero_values<E: Exact>(alloc: Global, forest: &Forest<E>) -> Result<Vec<E>, Memory>
     requires points { length forest.now.ranges < 2 ^ 31 }
     requires rows { length forest.now.rows < 2 ^ 31 }
     ensures each { IfOk result (λ values. length values.items ≡ length forest.now.ranges + length forest.now.rows) }
@@ -53,7 +53,7 @@ fn zeros<E: Exact>(alloc: Global, forest: &Forest<E>) -> Result<Vec<E>, Memory>
 }
 
 // Undoes one step, the last that is left.
-fn put_back<E: Exact>(
+fn put_value_back<E: Exact>(
     forest: &Forest<E>,
     links: &[Link],
     undos: &[Undo<E>],
@@ -72,7 +72,7 @@ fn put_back<E: Exact>(
             minus,
             of_row,
             of_point,
-        } => put_point(
+        } => put_point_value(
             forest, links, undos, values, point, row, minus, of_row, of_point,
         ),
         Undo::Row {
@@ -81,7 +81,7 @@ fn put_back<E: Exact>(
             minus,
             low_of_row,
             high_of_row,
-        } => put_row(
+        } => put_row_value(
             forest,
             links,
             undos,
@@ -92,12 +92,14 @@ fn put_back<E: Exact>(
             low_of_row,
             high_of_row,
         ),
-        Undo::Alone { vertex, value } => put_alone(forest, links, undos, values, vertex, value),
+        Undo::Alone { vertex, value } => put_lone_value(
+            forest, links, undos, values, vertex, value,
+        ),
     }
 }
 
 // Puts a point back: the value of its row is split.
-fn put_point<E: Exact>(
+fn put_point_value<E: Exact>(
     forest: &Forest<E>,
     links: &[Link],
     undos: &[Undo<E>],
@@ -119,7 +121,7 @@ fn put_point<E: Exact>(
 }
 
 // Puts a row back: its value is that of its last point, with its sign.
-fn put_row<E: Exact>(
+fn put_row_value<E: Exact>(
     forest: &Forest<E>,
     links: &[Link],
     undos: &[Undo<E>],
@@ -134,11 +136,11 @@ fn put_row<E: Exact>(
     requires settled { AreSettled E.parts forest.now links.now (with_row undos.now row point minus low_of_row high_of_row) values.old.items }
     ensures { AreSettled E.parts forest.now links.now undos.now values.new.items }
 {
-    values[row as usize] = signed(minus, values[point as usize]);
+    values[row as usize] = value_with_sign(minus, values[point as usize]);
 }
 
 // Puts a vertex without neighbours back, with its value.
-fn put_alone<E: Exact>(
+fn put_lone_value<E: Exact>(
     forest: &Forest<E>,
     links: &[Link],
     undos: &[Undo<E>],
@@ -158,7 +160,7 @@ fn put_alone<E: Exact>(
 fn split<E: Exact>(minus: bool, of_row: Bounds<E>, of_point: Bounds<E>, rest: E) -> (E, E)
     requires { CanSplit E.passes minus of_row of_point rest }
     ensures { (x y : Span) (t : WholeParts) (d : ℕ) → AreBoundsOver E.parts d of_row x → AreBoundsOver E.parts d of_point y → ArePartsOver (E.parts rest) t d
-        → IsNonempty x → IsNonempty y → IsWithin (lessened minus x y) t → AreSplitOver E.parts d minus x y t result.0 result.1 }
+        → IsNonempty x → IsNonempty y → IsWithin (row_without_point minus x y) t → AreSplitOver E.parts d minus x y t result.0 result.1 }
 {
     let low = of_point.low;
     if minus {
@@ -181,8 +183,8 @@ fn split<E: Exact>(minus: bool, of_row: Bounds<E>, of_point: Bounds<E>, rest: E)
 }
 
 // A value, or its negative for a minus sign.
-fn signed<E: Exact>(minus: bool, value: E) -> E
-    ensures { (a : WholeParts) (d : ℕ) → ArePartsOver (E.parts value) a d → ArePartsOver (E.parts result) (turned_pair minus a) d }
+fn value_with_sign<E: Exact>(minus: bool, value: E) -> E
+    ensures { (a : WholeParts) (d : ℕ) → ArePartsOver (E.parts value) a d → ArePartsOver (E.parts result) (pair_with_sign minus a) d }
 {
     if minus { value.neg() } else { value }
 }

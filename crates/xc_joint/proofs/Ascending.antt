@@ -12,7 +12,7 @@ use Rattle.std.specs.List.Sorted.{IsPermutation, IsSorted, IsStrictlySortedBy}
 use Rattle.std.specs.Ordering.{nat_cmp}
 use Rattle.std.specs.declared.cmp.Ordering.TheVariants.{Less}
 use Rattle.std.specs.Prelude.{All, sum_by, IsSome, IsSomeAnd}
-use Rattle.xc_joint.specs.Steps.Multiplied.{IsContradicted, IsMadeOf, IsListed, IsSigned, picked, is_nonzero, is_minus, is_plus, bindings_of, lows_of, highs_of}
+use Rattle.xc_joint.specs.Steps.Multiplied.{IsContradicted, IsMadeOf, IsListed, IsSigned, map_where, is_nonzero, is_minus, is_plus, named_bindings, named_low_facts, named_high_facts}
 use Rattle.xc_joint.specs.Lists.{AreEach}
 use Rattle.xc_joint.specs.Steps.OneForest.{IsSign, IsSpanOf}
 use Rattle.xc_joint.specs.declared.one_forest.Span.{Span}
@@ -112,7 +112,7 @@ AreFactsOf s fact points spans = AreEach (λ q x. IsIn (fact x) (facts_of s.boun
 
 module _ (s : Constraints) (placed : IsPlaced s) (test : ℤ → Bool) (fact : Span → ℕ) where
   abbrev chosen : List Span → List ℤ → List ℕ
-  chosen spans es = picked test (λ x e. fact x) spans es
+  chosen spans es = map_where test (λ x e. fact x) spans es
 
   -- what is chosen is a fact of one of the points
   record Belongs (points : List ℕ) (k : ℕ) : Type 0 where
@@ -219,22 +219,22 @@ signed_count (e ∷ es) [] h = absurd h
 signed_count (e ∷ es) (m ∷ ms) h = (sign_counts e.1 m.1 h.0.1, signed_count es ms h.1)
 
 -- the equations that count are a part of all
-bound_all : (P : ℕ → Type 0) (is : List ℕ) (bs : List ℤ) → AllByRecursion P is → AllByRecursion P (map (λ e. e.0) (bindings_of is bs))
+bound_all : (P : ℕ → Type 0) (is : List ℕ) (bs : List ℤ) → AllByRecursion P is → AllByRecursion P (map (λ e. e.0) (named_bindings is bs))
 bound_all P [] bs h = tt
 bound_all P (i ∷ is) [] h = tt
 bound_all P (i ∷ is) (b ∷ bs) h = by (is_nonzero b) (bound_all P is bs h.1)
   where
-    by : (t : Bool) → AllByRecursion P (map (λ e. e.0) (bindings_of is bs)) → AllByRecursion P (map (λ e. e.0) (if t then (i, is_minus b) ∷ bindings_of is bs else bindings_of is bs))
+    by : (t : Bool) → AllByRecursion P (map (λ e. e.0) (named_bindings is bs)) → AllByRecursion P (map (λ e. e.0) (if t then (i, is_minus b) ∷ named_bindings is bs else named_bindings is bs))
     by true rest = (h.0, rest)
     by false rest = rest
 
-bound_ascend : (is : List ℕ) (bs : List ℤ) → IsStrictlySortedBy nat_cmp is → IsStrictlySortedBy nat_cmp (map (λ e. e.0) (bindings_of is bs))
+bound_ascend : (is : List ℕ) (bs : List ℤ) → IsStrictlySortedBy nat_cmp is → IsStrictlySortedBy nat_cmp (map (λ e. e.0) (named_bindings is bs))
 unfolding IsStrictlySortedBy
 bound_ascend [] bs h = tt
 bound_ascend (i ∷ is) [] h = tt
 bound_ascend (i ∷ is) (b ∷ bs) h = by (is_nonzero b) (bound_all (λ y. nat_cmp i y ≡ Less) is bs h.0) (bound_ascend is bs h.1)
   where
-    by : (t : Bool) → AllByRecursion (λ y. nat_cmp i y ≡ Less) (map (λ e. e.0) (bindings_of is bs)) → IsStrictlySortedBy nat_cmp (map (λ e. e.0) (bindings_of is bs)) → IsStrictlySortedBy nat_cmp (map (λ e. e.0) (if t then (i, is_minus b) ∷ bindings_of is bs else bindings_of is bs))
+    by : (t : Bool) → AllByRecursion (λ y. nat_cmp i y ≡ Less) (map (λ e. e.0) (named_bindings is bs)) → IsStrictlySortedBy nat_cmp (map (λ e. e.0) (named_bindings is bs)) → IsStrictlySortedBy nat_cmp (map (λ e. e.0) (if t then (i, is_minus b) ∷ named_bindings is bs else named_bindings is bs))
     by true below rest = (below, rest)
     by false below rest = rest
 
@@ -255,32 +255,32 @@ module _ (s : Constraints) (c : Component) (spans : List Span) (by ends : List �
   points_once = once_of_ascending c.points h.is.points_ascend
 
   lows_rise : IsStrictlySortedBy nat_cmp made.lows
-  lows_rise = rises_strictly (lows_of spans ends) made.lows (once s placed is_plus (λ x. x.low) c.points spans ends (low_facts s c.points spans h.spans_are) points_once) made.lows_are made.lows_ascend
+  lows_rise = rises_strictly (named_low_facts spans ends) made.lows (once s placed is_plus (λ x. x.low) c.points spans ends (low_facts s c.points spans h.spans_are) points_once) made.lows_are made.lows_ascend
 
   highs_rise : IsStrictlySortedBy nat_cmp made.highs
-  highs_rise = rises_strictly (highs_of spans ends) made.highs (once s placed is_minus (λ x. x.high) c.points spans ends (high_facts s c.points spans h.spans_are) points_once) made.highs_are made.highs_ascend
+  highs_rise = rises_strictly (named_high_facts spans ends) made.highs (once s placed is_minus (λ x. x.high) c.points spans ends (high_facts s c.points spans h.spans_are) points_once) made.highs_are made.highs_ascend
 
   own_fact : (q k : ℕ) → IsIn q c.points → IsIn k (facts_of s.bounds q) → IsKnownIn s c k
   own_fact q k there of = (spans_known s c.points spans h.spans_are q there k of, subst (λ p. IsIn p c.points) (sym (placed q k of)) there)
 
   low_own : (k : ℕ) → IsIn k made.lows → IsKnownIn s c k
-  low_own k i = let b = belongs s placed is_plus (λ x. x.low) c.points spans ends k (low_facts s c.points spans h.spans_are) (in_other (lows_of spans ends) made.lows made.lows_are k i) in own_fact b.point k b.there b.of
+  low_own k i = let b = belongs s placed is_plus (λ x. x.low) c.points spans ends k (low_facts s c.points spans h.spans_are) (in_other (named_low_facts spans ends) made.lows made.lows_are k i) in own_fact b.point k b.there b.of
 
   high_own : (k : ℕ) → IsIn k made.highs → IsKnownIn s c k
-  high_own k i = let b = belongs s placed is_minus (λ x. x.high) c.points spans ends k (high_facts s c.points spans h.spans_are) (in_other (highs_of spans ends) made.highs made.highs_are k i) in own_fact b.point k b.there b.of
+  high_own k i = let b = belongs s placed is_minus (λ x. x.high) c.points spans ends k (high_facts s c.points spans h.spans_are) (in_other (named_high_facts spans ends) made.highs made.highs_are k i) in own_fact b.point k b.there b.of
 
   pub are_kept : IsRefutation r
   are_kept = record {
-    bindings_ascend = subst (IsStrictlySortedBy nat_cmp) (sym (signed_numbers (bindings_of c.equations by) r.bindings made.bindings_listed)) (bound_ascend c.equations by h.is.equations_ascend);
+    bindings_ascend = subst (IsStrictlySortedBy nat_cmp) (sym (signed_numbers (named_bindings c.equations by) r.bindings made.bindings_listed)) (bound_ascend c.equations by h.is.equations_ascend);
     lows_ascend = subst (IsStrictlySortedBy nat_cmp) (sym (listed_numbers made.lows r.lows made.lows_listed)) lows_rise;
     highs_ascend = subst (IsStrictlySortedBy nat_cmp) (sym (listed_numbers made.highs r.highs made.highs_listed)) highs_rise;
-    bindings_count = All-from_recursion (λ m. m.1.num ≢ pos 0) r.bindings (signed_count (bindings_of c.equations by) r.bindings made.bindings_listed);
+    bindings_count = All-from_recursion (λ m. m.1.num ≢ pos 0) r.bindings (signed_count (named_bindings c.equations by) r.bindings made.bindings_listed);
     lows_positive = All-from_recursion (λ m. pos 0 <ℤ m.1.num) r.lows (listed_positive made.lows r.lows made.lows_listed);
     highs_positive = All-from_recursion (λ m. pos 0 <ℤ m.1.num) r.highs (listed_positive made.highs r.highs made.highs_listed);
   }
 
   pub bindings_own : All (λ m. IsIn m.0 c.equations) r.bindings
-  bindings_own = All-from_recursion (λ m. IsIn m.0 c.equations) r.bindings (own_numbers (λ i. IsIn i c.equations) (bindings_of c.equations by) r.bindings made.bindings_listed (bound_all (λ i. IsIn i c.equations) c.equations by (all_in c.equations (λ i. IsIn i c.equations) (λ i k. k))))
+  bindings_own = All-from_recursion (λ m. IsIn m.0 c.equations) r.bindings (own_numbers (λ i. IsIn i c.equations) (named_bindings c.equations by) r.bindings made.bindings_listed (bound_all (λ i. IsIn i c.equations) c.equations by (all_in c.equations (λ i. IsIn i c.equations) (λ i k. k))))
 
   pub lows_own : All (λ m. IsKnownIn s c m.0) r.lows
   lows_own = All-from_recursion (λ m. IsKnownIn s c m.0) r.lows (listed_all (IsKnownIn s c) made.lows r.lows made.lows_listed low_own)

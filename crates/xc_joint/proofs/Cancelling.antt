@@ -7,9 +7,9 @@ use Rattle.std.proofs.lemmas.Int.{ints}
 use Rattle.std.proofs.lemmas.List.Sorted.{sum_by-IsPermutation}
 use Rattle.std.proofs.lemmas.List.Sums.{sum_by-cons}
 use Rattle.std.specs.Prelude.{sum_by}
-use Rattle.xc_forest.specs.Forests.{IsUnit, row_sum, row_at, turn, sum_below, multiplier_at, unit_at as place_unit}
+use Rattle.xc_forest.specs.Forests.{IsUnit, row_sum, row_at, number_with_sign, sum_below, multiplier_at, unit_at as place_unit}
 use Rattle.xc_joint.specs.Small.{closed_pairs}
-use Rattle.xc_joint.specs.Steps.Multiplied.{IsContradicted, IsMadeOf, IsListed, IsSigned, lows_of, highs_of, bindings_of}
+use Rattle.xc_joint.specs.Steps.Multiplied.{IsContradicted, IsMadeOf, IsListed, IsSigned, named_low_facts, named_high_facts, named_bindings}
 use Rattle.xc_joint.specs.Lists.{AreEach}
 use Rattle.xc_joint.specs.Steps.OneForest.{IsSign, IsSignedPlace, IsRangeOf, IsRowOf, IsSpanOf}
 use Rattle.xc_joint.specs.declared.one_forest.Span.{Span}
@@ -26,7 +26,7 @@ use Rattle.xc_system.specs.Kept.{Multipliers}
 use Rattle.xc_lists.specs.Members.{IsIn, IsOnce}
 use Rattle.xc_lists.proofs.Members.{is_in_at, once_of_ascending}
 use Rattle.xc_system.specs.Refutations.{coefficient, total, unit_at}
-use Rattle.xc_system.specs.Solutions.{IsZero, weighed}
+use Rattle.xc_system.specs.Solutions.{IsZero, sum_over_entries}
 use Rattle.xc_system.specs.Systems.{Constraints, equation_at, facts_of, point_at}
 use Rattle.xc_system.specs.declared.types.Component.{Component}
 use Rattle.xc_system.specs.declared.types.Entry.{Entry}
@@ -45,7 +45,7 @@ whole_product x y a b h k = product_over x y a b 1 1 h k
 whole_zero : (x : Fraction) → IsWhole x (pos 0) → IsZero x
 whole_zero x h = omega (arith, ints, h.cross)
 
-by_sign : (b : Bool) (w : Ratio) (x : Fraction) (z : ℤ) → IsSign b w → IsWhole x z → IsWhole (product_of (fraction_of w) x) (turn b z)
+by_sign : (b : Bool) (w : Ratio) (x : Fraction) (z : ℤ) → IsSign b w → IsWhole x z → IsWhole (product_of (fraction_of w) x) (number_with_sign b z)
 by_sign false w x z h k = subst (IsWhole (product_of (fraction_of w) x)) (omega (arith, ints)) (whole_product (fraction_of w) x (pos 1) z (fraction_one w h) k)
 by_sign true w x z h k = subst (IsWhole (product_of (fraction_of w) x)) (omega (arith, ints)) (whole_product (fraction_of w) x (negsuc 0) z (fraction_minus w h) k)
 
@@ -98,7 +98,7 @@ AreUnits es = (p : ℕ) → IsUnit (multiplier_at es p)
 
 -- the low ends less the high ends that are named at a point are its multipliers
 named_at : (s : Constraints) (placed : IsPlaced s) (j : ℕ) (points : List ℕ) (spans : List Span) (es : List ℤ) → AreEach (IsSpanOf s) points spans → AreUnits es
-    → pos (sum_by (one_of s j) (lows_of spans es)) +ℤ neg_ℤ (pos (sum_by (one_of s j) (highs_of spans es))) ≡ ends_at j points es
+    → pos (sum_by (one_of s j) (named_low_facts spans es)) +ℤ neg_ℤ (pos (sum_by (one_of s j) (named_high_facts spans es))) ≡ ends_at j points es
 named_at s placed j [] [] es h u = refl
 named_at s placed j [] (x ∷ xs) es h u = absurd h
 named_at s placed j (q ∷ qs) [] es h u = absurd h
@@ -123,10 +123,10 @@ named_at s placed j (q ∷ qs) (x ∷ xs) (e ∷ es) h u = by e (u 0) (named_at 
     neither true l m z k = omega (arith, ints, k)
     neither false l m z k = omega (arith, ints, k)
 
-    by : (e : ℤ) → IsUnit e → (pos (sum_by (one_of s j) (lows_of xs es)) +ℤ neg_ℤ (pos (sum_by (one_of s j) (highs_of xs es))) ≡ ends_at j qs es) → pos (sum_by (one_of s j) (lows_of (x ∷ xs) (e ∷ es))) +ℤ neg_ℤ (pos (sum_by (one_of s j) (highs_of (x ∷ xs) (e ∷ es)))) ≡ (if q == j then e else pos 0) +ℤ ends_at j qs es
-    by e (inl z) rest = subst (λ e. pos (sum_by (one_of s j) (lows_of (x ∷ xs) (e ∷ es))) +ℤ neg_ℤ (pos (sum_by (one_of s j) (highs_of (x ∷ xs) (e ∷ es)))) ≡ (if q == j then e else pos 0) +ℤ ends_at j qs es) (sym z) (neither (q == j) (sum_by (one_of s j) (lows_of xs es)) (sum_by (one_of s j) (highs_of xs es)) (ends_at j qs es) rest)
-    by e (inr (inl z)) rest = subst (λ e. pos (sum_by (one_of s j) (lows_of (x ∷ xs) (e ∷ es))) +ℤ neg_ℤ (pos (sum_by (one_of s j) (highs_of (x ∷ xs) (e ∷ es)))) ≡ (if q == j then e else pos 0) +ℤ ends_at j qs es) (sym z) (ap (λ n. pos n +ℤ neg_ℤ (pos (sum_by (one_of s j) (highs_of xs es)))) (sum_cons (one_of s j) x.low (lows_of xs es)) ∙ plus (q == j) (one_of s j x.low) (sum_by (one_of s j) (lows_of xs es)) (sum_by (one_of s j) (highs_of xs es)) (ends_at j qs es) low_here rest)
-    by e (inr (inr z)) rest = subst (λ e. pos (sum_by (one_of s j) (lows_of (x ∷ xs) (e ∷ es))) +ℤ neg_ℤ (pos (sum_by (one_of s j) (highs_of (x ∷ xs) (e ∷ es)))) ≡ (if q == j then e else pos 0) +ℤ ends_at j qs es) (sym z) (ap (λ n. pos (sum_by (one_of s j) (lows_of xs es)) +ℤ neg_ℤ (pos n)) (sum_cons (one_of s j) x.high (highs_of xs es)) ∙ minus (q == j) (one_of s j x.high) (sum_by (one_of s j) (lows_of xs es)) (sum_by (one_of s j) (highs_of xs es)) (ends_at j qs es) high_here rest)
+    by : (e : ℤ) → IsUnit e → (pos (sum_by (one_of s j) (named_low_facts xs es)) +ℤ neg_ℤ (pos (sum_by (one_of s j) (named_high_facts xs es))) ≡ ends_at j qs es) → pos (sum_by (one_of s j) (named_low_facts (x ∷ xs) (e ∷ es))) +ℤ neg_ℤ (pos (sum_by (one_of s j) (named_high_facts (x ∷ xs) (e ∷ es)))) ≡ (if q == j then e else pos 0) +ℤ ends_at j qs es
+    by e (inl z) rest = subst (λ e. pos (sum_by (one_of s j) (named_low_facts (x ∷ xs) (e ∷ es))) +ℤ neg_ℤ (pos (sum_by (one_of s j) (named_high_facts (x ∷ xs) (e ∷ es)))) ≡ (if q == j then e else pos 0) +ℤ ends_at j qs es) (sym z) (neither (q == j) (sum_by (one_of s j) (named_low_facts xs es)) (sum_by (one_of s j) (named_high_facts xs es)) (ends_at j qs es) rest)
+    by e (inr (inl z)) rest = subst (λ e. pos (sum_by (one_of s j) (named_low_facts (x ∷ xs) (e ∷ es))) +ℤ neg_ℤ (pos (sum_by (one_of s j) (named_high_facts (x ∷ xs) (e ∷ es)))) ≡ (if q == j then e else pos 0) +ℤ ends_at j qs es) (sym z) (ap (λ n. pos n +ℤ neg_ℤ (pos (sum_by (one_of s j) (named_high_facts xs es)))) (sum_cons (one_of s j) x.low (named_low_facts xs es)) ∙ plus (q == j) (one_of s j x.low) (sum_by (one_of s j) (named_low_facts xs es)) (sum_by (one_of s j) (named_high_facts xs es)) (ends_at j qs es) low_here rest)
+    by e (inr (inr z)) rest = subst (λ e. pos (sum_by (one_of s j) (named_low_facts (x ∷ xs) (e ∷ es))) +ℤ neg_ℤ (pos (sum_by (one_of s j) (named_high_facts (x ∷ xs) (e ∷ es)))) ≡ (if q == j then e else pos 0) +ℤ ends_at j qs es) (sym z) (ap (λ n. pos (sum_by (one_of s j) (named_low_facts xs es)) +ℤ neg_ℤ (pos n)) (sum_cons (one_of s j) x.high (named_high_facts xs es)) ∙ minus (q == j) (one_of s j x.high) (sum_by (one_of s j) (named_low_facts xs es)) (sum_by (one_of s j) (named_high_facts xs es)) (ends_at j qs es) high_here rest)
 
 -- a point that is not among these has none
 ends_none : (j : ℕ) (qs : List ℕ) (es : List ℤ) → ¬ IsIn j qs → ends_at j qs es ≡ pos 0
@@ -164,13 +164,13 @@ same_unit points p j k q up l is m at = by (k == p) refl
     by true e = let same : q ≡ j = sym at ∙ ap (λ i. get_or points i 0) (eqb-true k p e) ∙ is in ap (λ b. pos (if b then 1 else 0)) (eq-eqb q j same) ∙ ap (λ b. if b then pos 1 else pos 0) (sym e)
     by false e = let other : q ≢ j = λ s. false≢true (sym e ∙ eq-eqb k p (same_place points k p up m l (at ∙ s ∙ sym is))) in ap (λ b. pos (if b then 1 else 0)) (ne_eqb q j other) ∙ ap (λ b. if b then pos 1 else pos 0) (sym e)
 
-weighed_whole : (points : List ℕ) (p j : ℕ) → IsStrictlySortedBy nat_cmp points → p < length points → get_or points p 0 ≡ j → (entries : List Entry) (row : List (ℕ × Bool)) → AreEach (IsSignedPlace points) entries row → IsWhole (weighed entries (unit_at j)) (row_sum row (place_unit p))
+weighed_whole : (points : List ℕ) (p j : ℕ) → IsStrictlySortedBy nat_cmp points → p < length points → get_or points p 0 ≡ j → (entries : List Entry) (row : List (ℕ × Bool)) → AreEach (IsSignedPlace points) entries row → IsWhole (sum_over_entries entries (unit_at j)) (row_sum row (place_unit p))
 weighed_whole points p j up l is [] [] h = whole_itself (pos 0)
 weighed_whole points p j up l is [] (r ∷ rs) h = absurd h
 weighed_whole points p j up l is (e ∷ es) [] h = absurd h
 weighed_whole points p j up l is (e ∷ es) (r ∷ rs) h =
     let unit = subst (IsWhole (unit_at j e.point)) (same_unit points p j r.0 e.point up l is h.0.inside h.0.there) (unit_whole j e.point) in
-    sum_number (product_of (fraction_of e.weight) (unit_at j e.point)) (weighed es (unit_at j)) (turn r.1 (place_unit p r.0)) (row_sum rs (place_unit p)) 1 (by_sign r.1 e.weight (unit_at j e.point) (place_unit p r.0) h.0.sign unit) (weighed_whole points p j up l is es rs h.1)
+    sum_number (product_of (fraction_of e.weight) (unit_at j e.point)) (sum_over_entries es (unit_at j)) (number_with_sign r.1 (place_unit p r.0)) (row_sum rs (place_unit p)) 1 (by_sign r.1 e.weight (unit_at j e.point) (place_unit p r.0) h.0.sign unit) (weighed_whole points p j up l is es rs h.1)
 
 -- the sum over rows of what they give times their multipliers
 abbrev rows_at : ℕ → List (List (ℕ × Bool)) → List ℤ → ℤ
@@ -185,17 +185,17 @@ rows_below p (r ∷ rs) (b ∷ bs) same = ap (λ z. row_sum r (place_unit p) *�
 
 -- the listed equations are worth the same
 bound_whole : (s : Constraints) (points : List ℕ) (p j : ℕ) → IsStrictlySortedBy nat_cmp points → p < length points → get_or points p 0 ≡ j → (is : List ℕ) (rows : List (List (ℕ × Bool))) (bs : List ℤ) (ms : List (ℕ × Ratio))
-    → AreEach (IsRowOf s points) is rows → AreUnits bs → AreEach IsSigned (bindings_of is bs) ms → IsWhole (total ms (λ i. weighed (equation_at s.equations i).entries (unit_at j))) (rows_at p rows bs)
+    → AreEach (IsRowOf s points) is rows → AreUnits bs → AreEach IsSigned (named_bindings is bs) ms → IsWhole (total ms (λ i. sum_over_entries (equation_at s.equations i).entries (unit_at j))) (rows_at p rows bs)
 bound_whole s points p j up l at [] [] bs ms h u m = none ms m
   where
-    none : (ms : List (ℕ × Ratio)) → AreEach IsSigned [] ms → IsWhole (total ms (λ i. weighed (equation_at s.equations i).entries (unit_at j))) (pos 0)
+    none : (ms : List (ℕ × Ratio)) → AreEach IsSigned [] ms → IsWhole (total ms (λ i. sum_over_entries (equation_at s.equations i).entries (unit_at j))) (pos 0)
     none [] m = whole_itself (pos 0)
     none (x ∷ xs) m = absurd m
 bound_whole s points p j up l at [] (r ∷ rs) bs ms h u m = absurd h
 bound_whole s points p j up l at (i ∷ is) [] bs ms h u m = absurd h
 bound_whole s points p j up l at (i ∷ is) (r ∷ rs) [] ms h u m = none ms m
   where
-    none : (ms : List (ℕ × Ratio)) → AreEach IsSigned [] ms → IsWhole (total ms (λ i. weighed (equation_at s.equations i).entries (unit_at j))) (pos 0)
+    none : (ms : List (ℕ × Ratio)) → AreEach IsSigned [] ms → IsWhole (total ms (λ i. sum_over_entries (equation_at s.equations i).entries (unit_at j))) (pos 0)
     none [] m = whole_itself (pos 0)
     none (x ∷ xs) m = absurd m
 bound_whole s points p j up l at (i ∷ is) (r ∷ rs) (b ∷ bs) ms h u m = by b (u 0) ms m (λ ns n. bound_whole s points p j up l at is rs bs ns h.1 (λ q. u (suc q)) n) (weighed_whole points p j up l at (equation_at s.equations i).entries r h.0)
@@ -203,15 +203,15 @@ bound_whole s points p j up l at (i ∷ is) (r ∷ rs) (b ∷ bs) ms h u m = by 
     worth : Fraction → ℤ → Type 0
     worth x z = IsWhole x z
 
-    signed_sum : (minus : Bool) (b : ℤ) (ms : List (ℕ × Ratio)) → ((z : ℤ) → turn minus z ≡ z *ℤ b) → AreEach IsSigned ((i, minus) ∷ bindings_of is bs) ms
-        → ((ns : List (ℕ × Ratio)) → AreEach IsSigned (bindings_of is bs) ns → IsWhole (total ns (λ i. weighed (equation_at s.equations i).entries (unit_at j))) (rows_at p rs bs))
-        → IsWhole (weighed (equation_at s.equations i).entries (unit_at j)) (row_sum r (place_unit p))
-        → IsWhole (total ms (λ i. weighed (equation_at s.equations i).entries (unit_at j))) (row_sum r (place_unit p) *ℤ b +ℤ rows_at p rs bs)
+    signed_sum : (minus : Bool) (b : ℤ) (ms : List (ℕ × Ratio)) → ((z : ℤ) → number_with_sign minus z ≡ z *ℤ b) → AreEach IsSigned ((i, minus) ∷ named_bindings is bs) ms
+        → ((ns : List (ℕ × Ratio)) → AreEach IsSigned (named_bindings is bs) ns → IsWhole (total ns (λ i. sum_over_entries (equation_at s.equations i).entries (unit_at j))) (rows_at p rs bs))
+        → IsWhole (sum_over_entries (equation_at s.equations i).entries (unit_at j)) (row_sum r (place_unit p))
+        → IsWhole (total ms (λ i. sum_over_entries (equation_at s.equations i).entries (unit_at j))) (row_sum r (place_unit p) *ℤ b +ℤ rows_at p rs bs)
     signed_sum minus b [] times m rest here = absurd m
     signed_sum minus b (x ∷ xs) times m rest here =
-        let own = subst (λ k. IsWhole (weighed (equation_at s.equations k).entries (unit_at j)) (row_sum r (place_unit p))) (sym m.0.0) here in
-        let turned = subst (IsWhole (product_of (fraction_of x.1) (weighed (equation_at s.equations x.0).entries (unit_at j)))) (times (row_sum r (place_unit p))) (by_sign minus x.1 (weighed (equation_at s.equations x.0).entries (unit_at j)) (row_sum r (place_unit p)) m.0.1 own) in
-        sum_number (product_of (fraction_of x.1) (weighed (equation_at s.equations x.0).entries (unit_at j))) (total xs (λ i. weighed (equation_at s.equations i).entries (unit_at j))) (row_sum r (place_unit p) *ℤ b) (rows_at p rs bs) 1 turned (rest xs m.1)
+        let own = subst (λ k. IsWhole (sum_over_entries (equation_at s.equations k).entries (unit_at j)) (row_sum r (place_unit p))) (sym m.0.0) here in
+        let turned = subst (IsWhole (product_of (fraction_of x.1) (sum_over_entries (equation_at s.equations x.0).entries (unit_at j)))) (times (row_sum r (place_unit p))) (by_sign minus x.1 (sum_over_entries (equation_at s.equations x.0).entries (unit_at j)) (row_sum r (place_unit p)) m.0.1 own) in
+        sum_number (product_of (fraction_of x.1) (sum_over_entries (equation_at s.equations x.0).entries (unit_at j))) (total xs (λ i. sum_over_entries (equation_at s.equations i).entries (unit_at j))) (row_sum r (place_unit p) *ℤ b) (rows_at p rs bs) 1 turned (rest xs m.1)
 
     skip : (x y : ℤ) → y ≡ x *ℤ pos 0 +ℤ y
     skip x y = omega (arith, ints)
@@ -222,15 +222,15 @@ bound_whole s points p j up l at (i ∷ is) (r ∷ rs) (b ∷ bs) ms h u m = by 
     turned : (z : ℤ) → neg_ℤ z ≡ z *ℤ negsuc 0
     turned z = omega (arith, ints)
 
-    by : (b : ℤ) → IsUnit b → (ms : List (ℕ × Ratio)) → AreEach IsSigned (bindings_of (i ∷ is) (b ∷ bs)) ms
-        → ((ns : List (ℕ × Ratio)) → AreEach IsSigned (bindings_of is bs) ns → IsWhole (total ns (λ i. weighed (equation_at s.equations i).entries (unit_at j))) (rows_at p rs bs))
-        → IsWhole (weighed (equation_at s.equations i).entries (unit_at j)) (row_sum r (place_unit p))
-        → IsWhole (total ms (λ i. weighed (equation_at s.equations i).entries (unit_at j))) (row_sum r (place_unit p) *ℤ b +ℤ rows_at p rs bs)
-    by b (inl z) ms m rest here = subst (λ b. AreEach IsSigned (bindings_of (i ∷ is) (b ∷ bs)) ms → IsWhole (total ms (λ i. weighed (equation_at s.equations i).entries (unit_at j))) (row_sum r (place_unit p) *ℤ b +ℤ rows_at p rs bs)) (sym z)
-        (λ k. subst (IsWhole (total ms (λ i. weighed (equation_at s.equations i).entries (unit_at j)))) (skip (row_sum r (place_unit p)) (rows_at p rs bs)) (rest ms k)) m
-    by b (inr (inl z)) ms m rest here = subst (λ b. AreEach IsSigned (bindings_of (i ∷ is) (b ∷ bs)) ms → IsWhole (total ms (λ i. weighed (equation_at s.equations i).entries (unit_at j))) (row_sum r (place_unit p) *ℤ b +ℤ rows_at p rs bs)) (sym z)
+    by : (b : ℤ) → IsUnit b → (ms : List (ℕ × Ratio)) → AreEach IsSigned (named_bindings (i ∷ is) (b ∷ bs)) ms
+        → ((ns : List (ℕ × Ratio)) → AreEach IsSigned (named_bindings is bs) ns → IsWhole (total ns (λ i. sum_over_entries (equation_at s.equations i).entries (unit_at j))) (rows_at p rs bs))
+        → IsWhole (sum_over_entries (equation_at s.equations i).entries (unit_at j)) (row_sum r (place_unit p))
+        → IsWhole (total ms (λ i. sum_over_entries (equation_at s.equations i).entries (unit_at j))) (row_sum r (place_unit p) *ℤ b +ℤ rows_at p rs bs)
+    by b (inl z) ms m rest here = subst (λ b. AreEach IsSigned (named_bindings (i ∷ is) (b ∷ bs)) ms → IsWhole (total ms (λ i. sum_over_entries (equation_at s.equations i).entries (unit_at j))) (row_sum r (place_unit p) *ℤ b +ℤ rows_at p rs bs)) (sym z)
+        (λ k. subst (IsWhole (total ms (λ i. sum_over_entries (equation_at s.equations i).entries (unit_at j)))) (skip (row_sum r (place_unit p)) (rows_at p rs bs)) (rest ms k)) m
+    by b (inr (inl z)) ms m rest here = subst (λ b. AreEach IsSigned (named_bindings (i ∷ is) (b ∷ bs)) ms → IsWhole (total ms (λ i. sum_over_entries (equation_at s.equations i).entries (unit_at j))) (row_sum r (place_unit p) *ℤ b +ℤ rows_at p rs bs)) (sym z)
         (λ k. signed_sum false (pos 1) ms same k rest here) m
-    by b (inr (inr z)) ms m rest here = subst (λ b. AreEach IsSigned (bindings_of (i ∷ is) (b ∷ bs)) ms → IsWhole (total ms (λ i. weighed (equation_at s.equations i).entries (unit_at j))) (row_sum r (place_unit p) *ℤ b +ℤ rows_at p rs bs)) (sym z)
+    by b (inr (inr z)) ms m rest here = subst (λ b. AreEach IsSigned (named_bindings (i ∷ is) (b ∷ bs)) ms → IsWhole (total ms (λ i. sum_over_entries (equation_at s.equations i).entries (unit_at j))) (row_sum r (place_unit p) *ℤ b +ℤ rows_at p rs bs)) (sym z)
         (λ k. signed_sum true (negsuc 0) ms turned k rest here) m
 
 -- ---- all
@@ -239,14 +239,14 @@ pub cancels : (s : Constraints) (c : Component) (spans : List Span) (by ends : L
 cancels s c spans by ends r placed h made j there =
     let place = place_of j c.points there in
     let p = place.0 in
-    let lows = subst (λ n. IsWhole (total r.lows (λ k. unit_at j (point_at s.bounds k))) (pos n)) (sum_by-IsPermutation (one_of s j) (lows_of spans ends) made.lows made.lows_are) (listed_whole s j made.lows r.lows made.lows_listed) in
-    let highs = subst (λ n. IsWhole (total r.highs (λ k. unit_at j (point_at s.bounds k))) (pos n)) (sum_by-IsPermutation (one_of s j) (highs_of spans ends) made.highs made.highs_are) (listed_whole s j made.highs r.highs made.highs_listed) in
+    let lows = subst (λ n. IsWhole (total r.lows (λ k. unit_at j (point_at s.bounds k))) (pos n)) (sum_by-IsPermutation (one_of s j) (named_low_facts spans ends) made.lows made.lows_are) (listed_whole s j made.lows r.lows made.lows_listed) in
+    let highs = subst (λ n. IsWhole (total r.highs (λ k. unit_at j (point_at s.bounds k))) (pos n)) (sum_by-IsPermutation (one_of s j) (named_high_facts spans ends) made.highs made.highs_are) (listed_whole s j made.highs r.highs made.highs_listed) in
     let points_up = h.is.points_ascend in
     let count : length (map closed_pairs h.ranges) ≡ length c.points = map_size closed_pairs h.ranges ∙ each_length (IsRangeOf s) spans h.ranges h.ranges_are ∙ each_length (IsSpanOf s) c.points spans h.spans_are in
     let at_point = ends_one j place.0 c.points ends (once_of_ascending c.points points_up) place.1 place.2 (h.contradicts.each_end ∙ count) in
     let ends_whole = difference_whole (total r.lows (λ k. unit_at j (point_at s.bounds k))) (total r.highs (λ k. unit_at j (point_at s.bounds k))) _ _ lows highs in
     let bindings = bound_whole s c.points place.0 j points_up place.1 place.2 c.equations h.rows by r.bindings h.rows_are h.contradicts.row_units made.bindings_listed in
-    let all = sum_number (total r.bindings (λ i. weighed (equation_at s.equations i).entries (unit_at j))) (difference_of (total r.lows (λ k. unit_at j (point_at s.bounds k))) (total r.highs (λ k. unit_at j (point_at s.bounds k)))) _ _ 1 bindings ends_whole in
+    let all = sum_number (total r.bindings (λ i. sum_over_entries (equation_at s.equations i).entries (unit_at j))) (difference_of (total r.lows (λ k. unit_at j (point_at s.bounds k))) (total r.highs (λ k. unit_at j (point_at s.bounds k)))) _ _ 1 bindings ends_whole in
     let named = named_at s placed j c.points spans ends h.spans_are h.contradicts.end_units in
     let below = rows_below place.0 h.rows by h.contradicts.each_row in
     let none = h.contradicts.cancels place.0 (omega (arith, count, place.1)) in

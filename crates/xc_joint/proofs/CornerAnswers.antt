@@ -8,7 +8,7 @@ use Rattle.xc_corners.specs.Corners.{Corner, CornerLists, corner_of}
 use Rattle.xc_corners.specs.LastOperations.{in_walk}
 use Rattle.xc_corners.specs.Laws.{ConflictIsLast, FeasibleIsLast, IsOneRun}
 use Rattle.xc_corners.specs.Problems.{IsWholeProblem}
-use Rattle.xc_corners.specs.WholeNumbers.{whole}
+use Rattle.xc_corners.specs.WholeNumbers.{whole_problem}
 use Rattle.xc_corners.specs.declared.multipliers.Multipliers.{Multipliers as ProblemMultipliers}
 use Rattle.xc_corners.specs.declared.problem.Problem.{Problem}
 use Rattle.xc_frac.specs.declared.wide.Wide.{Wide}
@@ -59,7 +59,7 @@ module _ (s : Constraints) (c : Component) (problem : Problem) (of : IsProblemOf
   pub stop_passes : (lists : CornerLists) (w : Wide) → StopsAt problem lists w → CornerPasses s c lists w
   stop_passes lists w h = record { problem = problem; of = of; reached = h.0; passes = inl h.1 }
 
-  module _ (one : IsOneRun) (feasible : FeasibleIsLast) (conflict : ConflictIsLast) (is : IsWholeProblem (whole problem)) (lists : CornerLists) (last : IsLast (whole problem) (corner_of lists)) (w : Wide) where
+  module _ (one : IsOneRun) (feasible : FeasibleIsLast) (conflict : ConflictIsLast) (is : IsWholeProblem (whole_problem problem)) (lists : CornerLists) (last : IsLast (whole_problem problem) (corner_of lists)) (w : Wide) where
     -- an operation where the checker sums the values
     pub sum_passes : (values all : List Ratio) → IsSolution problem values → AreAmong c.points values all → PassesInSum s c all w → CornerPasses s c lists w
     sum_passes values all h among passes = record {
@@ -70,14 +70,14 @@ module _ (s : Constraints) (c : Component) (problem : Problem) (of : IsProblemOf
     }
       where
         same : h.corner ≡ corner_of lists
-        same = last_is one feasible conflict (whole problem) is h.corner (corner_of lists) h.factors last.factors h.reached h.at.solved (inl h.at.feasible) last.reached last.solved last.ends
+        same = last_is one feasible conflict (whole_problem problem) is h.corner (corner_of lists) h.factors last.factors h.reached h.at.solved (inl h.at.feasible) last.reached last.solved last.ends
 
     -- an operation where it sums the refutation
     pub refutation_passes : (r : Multipliers) → IsOfConflict s c problem r → PassesInRefutation s r w → CornerPasses s c lists w
     refutation_passes r h passes = record { problem = problem; of = of; reached = last.reached; passes = inr (by passes) }
       where
         same : h.corner ≡ corner_of lists
-        same = last_is one feasible conflict (whole problem) is h.corner (corner_of lists) h.is.factors last.factors h.reached h.is.at.solved (inr (h.is.above, h.is.variable, h.is.at.conflict)) last.reached last.solved last.ends
+        same = last_is one feasible conflict (whole_problem problem) is h.corner (corner_of lists) h.is.factors last.factors h.reached h.is.at.solved (inr (h.is.above, h.is.variable, h.is.at.conflict)) last.reached last.solved last.ends
 
         at : IsRefutationAt s c problem (corner_of lists) r
         at = subst (λ (x : Corner). IsRefutationAt s c problem x r) same h.is

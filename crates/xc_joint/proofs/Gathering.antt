@@ -8,7 +8,7 @@ use Rattle.std.specs.Option.{option_map_or}
 use Rattle.std.specs.Ordering.{nat_cmp}
 use Rattle.std.specs.Prelude.{slice_get}
 use Rattle.xc_joint.proofs.OneKind.{behind, same_component, placed_at as placed_at_of}
-use Rattle.xc_joint.specs.Answers.{AreValuesOf, HasNoCauses, IsPart, IsRefuted, placed}
+use Rattle.xc_joint.specs.Answers.{AreValuesOf, HasNoCauses, IsPart, IsRefuted, assignment_at}
 use Rattle.xc_joint.specs.Lists.{AreAmong}
 use Rattle.xc_joint.specs.Steps.Settling.{AreFirstAmong, AreGathered, HaveCause, HaveSums, IsRefutedBy}
 use Rattle.xc_joint.specs.Causes.{HasNoCause, IsCause}
@@ -27,7 +27,7 @@ use Rattle.xc_system.specs.Systems.{Constraints, IsSystem, equation_at}
 use Rattle.xc_system.specs.declared.types.Certificate.TheVariants.{Feasible, Infeasible}
 use Rattle.xc_system.specs.declared.types.Component.{Component}
 use Rattle.xc_system.specs.declared.types.Entry.{Entry}
-use Rattle.xc_verify.specs.Feasible.{assigned, equation_terms}
+use Rattle.xc_verify.specs.Feasible.{assignment_of, equation_terms}
 use Rattle.xc_verify.specs.Laws.{ContradictionsAreAccepted, SolutionsAreAccepted}
 use Rattle.xc_verify.specs.Judgements.{IsJudgement, Proves}
 use Rattle.xc_verify.specs.Sums.{IsSumOf, zero_ratio}
@@ -119,7 +119,7 @@ pub placed_all : (points : List ℕ) (values all : List Ratio) (n : ℕ) → len
 placed_all points values all n l h i p x at of = h i p x (omega (arith, l, slice_get_within points i p at)) at of
 
 -- the value of a point is the one at its place
-placed_at : (qs : List ℕ) (values : List Ratio) (i p : ℕ) (x : Ratio) → IsStrictlySortedBy nat_cmp qs → slice_get qs i ≡ Some p → slice_get values i ≡ Some x → placed qs values p ≡ fraction_of x
+placed_at : (qs : List ℕ) (values : List Ratio) (i p : ℕ) (x : Ratio) → IsStrictlySortedBy nat_cmp qs → slice_get qs i ≡ Some p → slice_get values i ≡ Some x → assignment_at qs values p ≡ fraction_of x
 unfolding IsStrictlySortedBy
 placed_at [] values i p x s at of = absurd (none at)
   where
@@ -129,10 +129,10 @@ placed_at (q ∷ qs) [] i p x s at of = absurd (none of)
   where
     none : None ≡ Some x → ⊥
     none e = cc
-placed_at (q ∷ qs) (v ∷ vs) zero p x s at of = ap (λ (b : Bool). cond b (fraction_of v) (placed qs vs p)) (eq-eqb p q (sym (same_Some q p at))) ∙ ap (λ (y : Ratio). fraction_of y) (same_Some v x of)
+placed_at (q ∷ qs) (v ∷ vs) zero p x s at of = ap (λ (b : Bool). cond b (fraction_of v) (assignment_at qs vs p)) (eq-eqb p q (sym (same_Some q p at))) ∙ ap (λ (y : Ratio). fraction_of y) (same_Some v x of)
 placed_at (q ∷ qs) (v ∷ vs) (suc i) p x s at of = go (p == q) refl ∙ placed_at qs vs i p x s.1 at of
   where
-    go : (b : Bool) → (p == q) ≡ b → cond b (fraction_of v) (placed qs vs p) ≡ placed qs vs p
+    go : (b : Bool) → (p == q) ≡ b → cond b (fraction_of v) (assignment_at qs vs p) ≡ assignment_at qs vs p
     go true e = absurd (omega (arith, eqb-true p q e, behind q p qs s.0 (there_in qs i p at)))
     go false e = refl
 
@@ -239,7 +239,7 @@ module _ (links : LinksAreEquivalences) (s : Constraints) (cs : List Component) 
 
 -- what a part gives its component
 abbrev given : Option Component → Option Part → Assignment
-given (Some c) (Some (Values values)) = placed c.points values
+given (Some c) (Some (Values values)) = assignment_at c.points values
 given (Some c) (Some (Wide cause)) = λ p. whole (pos 0)
 given (Some c) None = λ p. whole (pos 0)
 given None part = λ p. whole (pos 0)
@@ -256,10 +256,10 @@ module _ (accepted : SolutionsAreAccepted) (s : Constraints) (cs : List Componen
   abbrev own : ℕ → Assignment
   own k = given (slice_get cs k) (slice_get parts k)
 
-  own_is : (k : ℕ) (c : Component) (values : List Ratio) → slice_get cs k ≡ Some c → slice_get parts k ≡ Some (Values values) → own k ≡ placed c.points values
+  own_is : (k : ℕ) (c : Component) (values : List Ratio) → slice_get cs k ≡ Some c → slice_get parts k ≡ Some (Values values) → own k ≡ assignment_at c.points values
   own_is k c values at there = ap (λ (o : Option Component). given o (slice_get parts k)) at ∙ ap (λ (o : Option Part). given (Some c) o) there
 
-  joins : (k p : ℕ) (c : Component) → slice_get cs k ≡ Some c → IsIn p c.points → assigned all p ≡ own k p
+  joins : (k p : ℕ) (c : Component) → slice_get cs k ≡ Some c → IsIn p c.points → assignment_of all p ≡ own k p
   joins k p c at has =
       let v = values_at k c at in
       let are_of : AreValuesOf s c v.0 = (gathered.part k c (Values v.0) at v.1).0 in
@@ -269,8 +269,8 @@ module _ (accepted : SolutionsAreAccepted) (s : Constraints) (cs : List Componen
       ∙ sym (placed_at c.points v.0 place.0 p (get_or v.0 place.0 zero_ratio) (are.each k c at).points_ascend place.1 x)
       ∙ sym (ap (λ (z : Assignment). z p) (own_is k c v.0 at v.1))
 
-  pub all_solve : JoinedSolve → IsSystem s → Solves s (assigned all)
-  all_solve joined ok = joined s cs own (assigned all) ok are joins (λ k c at.
+  pub all_solve : JoinedSolve → IsSystem s → Solves s (assignment_of all)
+  all_solve joined ok = joined s cs own (assignment_of all) ok are joins (λ k c at.
       let v = values_at k c at in
       subst (λ (z : Assignment). SolvesPart s c z) (sym (own_is k c v.0 at v.1)) (gathered.part k c (Values v.0) at v.1).0.solve)
 

@@ -1,6 +1,6 @@
 -- The run of a problem has one last corner.
 use Rattle.std.proofs.Common.{◌≡◌, ◌⊎◌, ◌<◌, ℕ, zero, suc, Bool, inl, inr, refl, sym, subst, arith}
-use Rattle.xc_corners.specs.Choices.{Exchange, Exchanges, IsConflict, IsFeasible, IsReached, IsReachedBy, first}
+use Rattle.xc_corners.specs.Choices.{Exchange, Exchanges, IsConflict, IsFeasible, IsReached, IsReachedBy, first_corner}
 use Rattle.xc_corners.specs.Corners.{Corner, Factors, IsSolvedForm}
 use Rattle.xc_corners.specs.Laws.{ConflictIsLast, FeasibleIsLast, IsOneRun}
 use Rattle.xc_corners.specs.Problems.{IsWholeProblem, WholeProblem}
@@ -35,6 +35,6 @@ module _ (one : IsOneRun) (feasible : FeasibleIsLast) (conflict : ConflictIsLast
       order a b = grind arith
 
       go : (n < m) ⊎ ((n ≡ m) ⊎ (m < n)) → x ≡ y
-      go (inl l) = let r = goes_on n m l (first p) y by_y in absurd (ended x t solved_x end_x r.leaving r.entering r.next (subst (λ (z : Corner). Exchange p z r.leaving r.entering r.next) (one p n r.corner x is r.by by_x) r.exchange))
+      go (inl l) = let r = goes_on n m l (first_corner p) y by_y in absurd (ended x t solved_x end_x r.leaving r.entering r.next (subst (λ (z : Corner). Exchange p z r.leaving r.entering r.next) (one p n r.corner x is r.by by_x) r.exchange))
       go (inr (inl e)) = one p n x y is by_x (subst (λ (k : ℕ). IsReachedBy p k y) (sym e) by_y)
-      go (inr (inr l)) = let r = goes_on m n l (first p) x by_x in absurd (ended y u solved_y end_y r.leaving r.entering r.next (subst (λ (z : Corner). Exchange p z r.leaving r.entering r.next) (one p m r.corner y is r.by by_y) r.exchange))
+      go (inr (inr l)) = let r = goes_on m n l (first_corner p) x by_x in absurd (ended y u solved_y end_y r.leaving r.entering r.next (subst (λ (z : Corner). Exchange p z r.leaving r.entering r.next) (one p m r.corner y is r.by by_y) r.exchange))

@@ -6,8 +6,8 @@ use Rattle.std.proofs.lemmas.Map.Keys.{sorted_from_strictly_increasing}
 use Rattle.std.specs.List.{AllByRecursion, list_any}
 use Rattle.std.specs.List.Sorted.{IsNonDecreasingBy, IsStrictlySortedBy}
 use Rattle.std.specs.Ordering.{nat_cmp}
-use Rattle.xc_corners.specs.Answers.{weighed}
-use Rattle.xc_joint.specs.CornerCauses.{named_by}
+use Rattle.xc_corners.specs.Answers.{sum_over_lines}
+use Rattle.xc_joint.specs.CornerCauses.{line_with_number}
 use Rattle.xc_joint.proofs.Ascending.{rises_once}
 use Rattle.xc_joint.proofs.Searched.{rises}
 use Rattle.xc_lists.specs.Members.{IsIn, IsOnce}
@@ -21,15 +21,15 @@ module _ (numbers : List ℕ) where
   abbrev number_at : ℕ → ℕ
   number_at k = get_or numbers k 0
 
-  pub named_total : (f g : ℕ → Fraction) (lines : List (ℕ × Ratio)) → AllByRecursion (λ line. f (get_or numbers line.0 0) ≡ g line.0) lines → total (map (named_by numbers) lines) f ≡ weighed lines g
+  pub named_total : (f g : ℕ → Fraction) (lines : List (ℕ × Ratio)) → AllByRecursion (λ line. f (get_or numbers line.0 0) ≡ g line.0) lines → total (map (line_with_number numbers) lines) f ≡ sum_over_lines lines g
   named_total f g [] h = refl
   named_total f g (line ∷ lines) h = ap₂ sum_of (ap (λ (y : Fraction). product_of (fraction_of line.1) y) h.0) (named_total f g lines h.1)
 
-  pub named_any : (f g : ℕ → Bool) (lines : List (ℕ × Ratio)) → AllByRecursion (λ line. f (get_or numbers line.0 0) ≡ g line.0) lines → list_any (λ m. f m.0) (map (named_by numbers) lines) ≡ list_any (λ line. g line.0) lines
+  pub named_any : (f g : ℕ → Bool) (lines : List (ℕ × Ratio)) → AllByRecursion (λ line. f (get_or numbers line.0 0) ≡ g line.0) lines → list_any (λ m. f m.0) (map (line_with_number numbers) lines) ≡ list_any (λ line. g line.0) lines
   named_any f g [] h = refl
   named_any f g (line ∷ lines) h = ap₂ (λ (a b : Bool). a || b) h.0 (named_any f g lines h.1)
 
-  named_numbers : (lines : List (ℕ × Ratio)) → map (λ m. m.0) (map (named_by numbers) lines) ≡ map number_at (map (λ line. line.0) lines)
+  named_numbers : (lines : List (ℕ × Ratio)) → map (λ m. m.0) (map (line_with_number numbers) lines) ≡ map number_at (map (λ line. line.0) lines)
   named_numbers [] = refl
   named_numbers (line ∷ lines) = ap (λ (xs : List ℕ). get_or numbers line.0 0 ∷ xs) (named_numbers lines)
 
@@ -80,14 +80,14 @@ line_places n (line ∷ lines) h = (h.0, line_places n lines h.1)
 
 module _ (numbers : List ℕ) (lines : List (ℕ × Ratio)) (below : AllByRecursion (λ line. line.0 < length numbers) lines) where
   -- where the numbers ascend, and the places, the named lines do
-  pub named_ascend : ((i j : ℕ) → i < j → j < length numbers → get_or numbers i 0 < get_or numbers j 0) → IsStrictlySortedBy nat_cmp (map (λ line. line.0) lines) → IsStrictlySortedBy nat_cmp (map (λ m. m.0) (map (named_by numbers) lines))
+  pub named_ascend : ((i j : ℕ) → i < j → j < length numbers → get_or numbers i 0 < get_or numbers j 0) → IsStrictlySortedBy nat_cmp (map (λ line. line.0) lines) → IsStrictlySortedBy nat_cmp (map (λ m. m.0) (map (line_with_number numbers) lines))
   named_ascend up places = subst (IsStrictlySortedBy nat_cmp) (sym (named_numbers numbers lines)) (map_ascends (λ k. get_or numbers k 0) (length numbers) up (map (λ line. line.0) lines) (line_places (length numbers) lines below) places)
 
   -- where no number stands twice, and no place, the named lines ascend once they are sorted
-  pub sorted_ascend : ((i j : ℕ) → i < length numbers → j < length numbers → get_or numbers i 0 ≡ get_or numbers j 0 → i ≡ j) → IsOnce (map (λ line. line.0) lines) → (ms : List (ℕ × Ratio)) → IsPermutation (map (named_by numbers) lines) ms → IsNonDecreasingBy (λ m. m.0) ms → IsStrictlySortedBy nat_cmp (map (λ m. m.0) ms)
-  sorted_ascend apart places ms moved sorted = rises_once (map (λ m. m.0) (map (named_by numbers) lines)) (map (λ m. m.0) ms)
+  pub sorted_ascend : ((i j : ℕ) → i < length numbers → j < length numbers → get_or numbers i 0 ≡ get_or numbers j 0 → i ≡ j) → IsOnce (map (λ line. line.0) lines) → (ms : List (ℕ × Ratio)) → IsPermutation (map (line_with_number numbers) lines) ms → IsNonDecreasingBy (λ m. m.0) ms → IsStrictlySortedBy nat_cmp (map (λ m. m.0) ms)
+  sorted_ascend apart places ms moved sorted = rises_once (map (λ m. m.0) (map (line_with_number numbers) lines)) (map (λ m. m.0) ms)
       (subst IsOnce (sym (named_numbers numbers lines)) (map_once (λ k. get_or numbers k 0) (length numbers) apart (map (λ line. line.0) lines) (line_places (length numbers) lines below) places))
-      (IsPermutation-map (λ (m : ℕ × Ratio). m.0) (map (named_by numbers) lines) ms moved)
+      (IsPermutation-map (λ (m : ℕ × Ratio). m.0) (map (line_with_number numbers) lines) ms moved)
       step
     where
       step : (k : ℕ) → k + 1 < length (map (λ m. m.0) ms) → get_or (map (λ m. m.0) ms) k 0 ≤ get_or (map (λ m. m.0) ms) (k + 1) 0

@@ -6,7 +6,7 @@ use Rattle.xc_corners.specs.Corners.{Corner, CornerLists, Factors, IsSolvedForm,
 use Rattle.xc_corners.specs.LastOperations.{IsFeasibleAt, PassesInSolving}
 use Rattle.xc_corners.specs.Laws.{ConflictIsLast, FeasibleIsLast, HasOneSolvedForm, IsOneRun}
 use Rattle.xc_corners.specs.Problems.{IsWholeProblem}
-use Rattle.xc_corners.specs.WholeNumbers.{whole}
+use Rattle.xc_corners.specs.WholeNumbers.{whole_problem}
 use Rattle.xc_corners.specs.declared.multipliers.Multipliers.{Multipliers as ProblemMultipliers}
 use Rattle.xc_corners.specs.declared.problem.Problem.{Problem}
 use Rattle.xc_frac.specs.declared.wide.Wide.{Wide}
@@ -41,12 +41,12 @@ ends_or_passes once ts x w h k = apart (once ts (Ok x) (Err w) h k)
 
 -- w passes on the way to an answer to this problem, or where it is checked
 record PassesAtCorner (s : Constraints) (c : Component) (lists : CornerLists) (w : Wide) (problem : Problem) : Type 0 where
-  reached : IsReached (whole problem) (corner_of lists)
+  reached : IsReached (whole_problem problem) (corner_of lists)
   passes : PassesInSolving problem (corner_of lists) w ⊎ PassesInChecking s c problem (corner_of lists) w
 
 -- w passes where it is checked
 record PassesHere (s : Constraints) (c : Component) (problem : Problem) (lists : CornerLists) (w : Wide) : Type 0 where
-  reached : IsReached (whole problem) (corner_of lists)
+  reached : IsReached (whole_problem problem) (corner_of lists)
   passes : PassesInChecking s c problem (corner_of lists) w
 
 -- where nothing stops on the way to an answer, w passes where it is checked
@@ -58,30 +58,30 @@ passing_here s c problem lists w nothing h = go h.passes
     go (inr passes) = record { reached = h.reached; passes = passes }
 
 module _ (one_form : HasOneSolvedForm) (one : IsOneRun) (feasible : FeasibleIsLast) (conflict : ConflictIsLast) (once : HasOneSum)
-    (s : Constraints) (c : Component) (component : IsComponent s c) (problem : Problem) (of : IsProblemOf s c problem) (is : IsWholeProblem (whole problem)) where
+    (s : Constraints) (c : Component) (component : IsComponent s c) (problem : Problem) (of : IsProblemOf s c problem) (is : IsWholeProblem (whole_problem problem)) where
   -- what passes at a corner of the component's problem passes at one of this problem
   here : NothingStops problem → (lists : CornerLists) (w : Wide) → CornerPasses s c lists w → PassesHere s c problem lists w
   here nothing lists w h = passing_here s c problem lists w nothing (subst (PassesAtCorner s c lists w) (problem_once s c component h.problem problem h.of of) (record { reached = h.reached; passes = h.passes }))
 
   -- where the corners are both last, they are one
-  same_corner : (x y : Corner) (t u : Factors) → IsReached (whole problem) x → IsSolvedForm (whole problem) x t → IsEnd (whole problem) x t → IsReached (whole problem) y → IsSolvedForm (whole problem) y u → IsEnd (whole problem) y u → x ≡ y
-  same_corner x y t u = last_is one feasible conflict (whole problem) is x y t u
+  same_corner : (x y : Corner) (t u : Factors) → IsReached (whole_problem problem) x → IsSolvedForm (whole_problem problem) x t → IsEnd (whole_problem problem) x t → IsReached (whole_problem problem) y → IsSolvedForm (whole_problem problem) y u → IsEnd (whole_problem problem) y u → x ≡ y
+  same_corner x y t u = last_is one feasible conflict (whole_problem problem) is x y t u
 
   module _ (own : All (λ i. All (λ entry. IsIn entry.point c.points) (equation_at s.equations i).entries) c.equations) (values : List Ratio) (solution : IsSolution problem values) (long : length values ≡ length c.points)
       (all : List Ratio) (among : AreAmong c.points values all) (sums : SumsPassNowhere s c all) where
-    no_conflict : (x : Corner) → IsReached (whole problem) x → (r : Multipliers) → IsRefutationAt s c problem x r → ⊥
+    no_conflict : (x : Corner) → IsReached (whole_problem problem) x → (r : Multipliers) → IsRefutationAt s c problem x r → ⊥
     no_conflict x reached r at =
         let same : solution.corner ≡ x = same_corner solution.corner x solution.factors at.factors solution.reached solution.at.solved (inl solution.at.feasible) reached at.at.solved (inr (at.above, at.variable, at.at.conflict)) in
         let moved = subst (λ (y : Corner). IsFeasibleAt problem y solution.factors) same solution.at in
-        not_both_ends one_form (whole problem) is x solution.factors at.factors moved.solved at.at.solved at.above at.variable moved.feasible at.at.conflict
+        not_both_ends one_form (whole_problem problem) is x solution.factors at.factors moved.solved at.at.solved at.above at.variable moved.feasible at.at.conflict
 
-    same_values : (x : Corner) → IsReached (whole problem) x → (others : List Ratio) → AreValuesAt problem x others → values ≡ others
+    same_values : (x : Corner) → IsReached (whole_problem problem) x → (others : List Ratio) → AreValuesAt problem x others → values ≡ others
     same_values x reached others at =
         let same : x ≡ solution.corner = same_corner x solution.corner at.factors solution.factors reached at.at.solved (inl at.at.feasible) solution.reached solution.at.solved (inl solution.at.feasible) in
         let moved = subst (λ (y : Corner). AreValuesAt problem y others) same at in
-        values_once one_form (whole problem) is.unit solution.corner solution.factors moved.factors solution.at.solved moved.at.solved solution.small moved.small values others solution.is_small solution.are moved.is_small moved.are
+        values_once one_form (whole_problem problem) is.unit solution.corner solution.factors moved.factors solution.at.solved moved.at.solved solution.small moved.small values others solution.is_small solution.are moved.is_small moved.are
 
-    no_passing : (x : Corner) (w : Wide) → IsReached (whole problem) x → PassesInChecking s c problem x w → ⊥
+    no_passing : (x : Corner) (w : Wide) → IsReached (whole_problem problem) x → PassesInChecking s c problem x w → ⊥
     no_passing x w reached (in_equation others every i at also there sum) =
         let ends = other_sums s c own values long all among every (subst (λ (vs : List Ratio). AreAmong c.points vs every) (sym (same_values x reached others at)) also) sums i there in
         ends_or_passes once (equation_terms every (equation_at s.equations i).entries) ends.0 w ends.1 sum
@@ -92,21 +92,21 @@ module _ (one_form : HasOneSolvedForm) (one : IsOneRun) (feasible : FeasibleIsLa
     values_exclude lists w h = let g = here solution.nothing lists w h in no_passing (corner_of lists) w g.reached g.passes
 
   module _ (r : Multipliers) (answer : IsOfConflict s c problem r) (sums : HasSums s r) where
-    no_values : (x : Corner) → IsReached (whole problem) x → (others : List Ratio) → AreValuesAt problem x others → ⊥
+    no_values : (x : Corner) → IsReached (whole_problem problem) x → (others : List Ratio) → AreValuesAt problem x others → ⊥
     no_values x reached others at =
         let corner : x ≡ answer.corner = same_corner x answer.corner at.factors answer.is.factors reached at.at.solved (inl at.at.feasible) answer.reached answer.is.at.solved (inr (answer.is.above, answer.is.variable, answer.is.at.conflict)) in
         let moved = subst (λ (y : Corner). IsFeasibleAt problem y at.factors) corner at.at in
-        not_both_ends one_form (whole problem) is answer.corner at.factors answer.is.factors moved.solved answer.is.at.solved answer.is.above answer.is.variable moved.feasible answer.is.at.conflict
+        not_both_ends one_form (whole_problem problem) is answer.corner at.factors answer.is.factors moved.solved answer.is.at.solved answer.is.above answer.is.variable moved.feasible answer.is.at.conflict
 
-    same_refutation : (x : Corner) → IsReached (whole problem) x → (q : Multipliers) → IsRefutationAt s c problem x q → r ≡ q
+    same_refutation : (x : Corner) → IsReached (whole_problem problem) x → (q : Multipliers) → IsRefutationAt s c problem x q → r ≡ q
     same_refutation x reached q at =
         let corner : answer.corner ≡ x = same_corner answer.corner x answer.is.factors at.factors answer.reached answer.is.at.solved (inr (answer.is.above, answer.is.variable, answer.is.at.conflict)) reached at.at.solved (inr (at.above, at.variable, at.at.conflict)) in
         let moved = subst (λ (y : Corner). IsRefutationAt s c problem y r) corner answer.is in
         let multipliers : moved.multipliers ≡ at.multipliers =
-        conflict_once one_form (whole problem) is x moved.factors at.factors moved.at.solved at.at.solved moved.above at.above moved.variable at.variable moved.multipliers at.multipliers moved.at.conflict moved.are at.at.conflict at.are in
+        conflict_once one_form (whole_problem problem) is x moved.factors at.factors moved.at.solved at.at.solved moved.above at.above moved.variable at.variable moved.multipliers at.multipliers moved.at.conflict moved.are at.at.conflict at.are in
         refutation_once s c at.multipliers r q (subst (λ (m : ProblemMultipliers). IsRefutationOf s c m r) multipliers moved.is) at.is
 
-    none_passing : (x : Corner) (w : Wide) → IsReached (whole problem) x → PassesInChecking s c problem x w → ⊥
+    none_passing : (x : Corner) (w : Wide) → IsReached (whole_problem problem) x → PassesInChecking s c problem x w → ⊥
     none_passing x w reached (in_equation others every i at also there sum) = no_values x reached others at
     none_passing x w reached (in_coefficient q p at l sum) =
         let ends = sums.points p l in

@@ -5,7 +5,7 @@ use Rattle.std.proofs.lemmas.Int.{ints, by_lt_z}
 use Rattle.std.proofs.lemmas.List.{get_or_past}
 use Rattle.std.proofs.lemmas.List.Elements.{recursion_from_All}
 use Rattle.xc_corners.specs.Choices.{IsConflict, IsFeasible, Leaves}
-use Rattle.xc_corners.specs.Conflicts.{AreLinesOf, AreMultipliersOf, AreOfConflict, IsPositive, IsSome, multiplier, turned}
+use Rattle.xc_corners.specs.Conflicts.{AreLinesOf, AreMultipliersOf, AreOfConflict, IsPositive, IsNonzero, multiplier, opposite_if}
 use Rattle.xc_corners.specs.Corners.{variables, low_bound, high_bound, Corner, Factors, IsSolvedForm}
 use Rattle.xc_corners.specs.Laws.{HasOneSolvedForm}
 use Rattle.xc_corners.specs.Pairs.{◌≼◌}
@@ -56,7 +56,7 @@ module _ (n m : ℤ) (pn : pos 0 <ℤ n) (pm : pos 0 <ℤ m) (a b : ℤ) (same :
   positive_too : IsPositive a → IsPositive b
   positive_too h = by_lt_z (pos 0) b (λ l. l) (λ l. absurd (omega (arith, ints, same, mul_comm a n, mul_comm b m, scale_lt n (pos 0) a pn h, scale_le m b (pos 0) (omega (arith, ints, pm)) l)))
 
-  some_too : IsSome a → IsSome b
+  some_too : IsNonzero a → IsNonzero b
   some_too h e = h (cancel n a (pos 0) (λ z. omega (arith, ints, pn, z)) (mul_comm n a ∙ same ∙ ap (λ (z : ℤ). z *ℤ m) e ∙ omega (arith, ints)))
 
 -- ---- lines
@@ -129,7 +129,7 @@ module _ (p : WholeProblem) (a b : ℕ → ℤ) (d e : ℕ) (pd : 0 < d) (pe : 0
   multipliers_once ms ns h k = λ i. multipliers_of (rows i) (lows i) (highs i)
     where
       rows : ms.rows ≡ ns.rows
-      rows = lines_once (length p.rows) (λ i. a (length p.ranges + i)) (λ i. b (length p.ranges + i)) IsSome d e pd pe (λ i l. same (length p.ranges + i) (row_below i l))
+      rows = lines_once (length p.rows) (λ i. a (length p.ranges + i)) (λ i. b (length p.ranges + i)) IsNonzero d e pd pe (λ i l. same (length p.ranges + i) (row_below i l))
           (λ i l. some_too (pos e) (pos d) (positive_pos e pe) (positive_pos d pd) _ _ (same (length p.ranges + i) (row_below i l)))
           (λ i l. some_too (pos d) (pos e) (positive_pos d pd) (positive_pos e pe) _ _ (sym (same (length p.ranges + i) (row_below i l))))
           ms.rows ns.rows h.rows k.rows
@@ -155,7 +155,7 @@ module _ (one : HasOneSolvedForm) (p : WholeProblem) (is : IsWholeProblem p) (x 
   unfolding multiplier
   counts_same above b lb eb j l = turn above _ _ (go (j == b) (x.basic j) refl)
     where
-      turn : (above : Bool) (f g : ℤ) → f *ℤ pos u.over ≡ g *ℤ pos t.over → turned above f *ℤ pos u.over ≡ turned above g *ℤ pos t.over
+      turn : (above : Bool) (f g : ℤ) → f *ℤ pos u.over ≡ g *ℤ pos t.over → opposite_if above f *ℤ pos u.over ≡ opposite_if above g *ℤ pos t.over
       turn false f g e = e
       turn true f g e = scaled_neg f g (pos u.over) (pos t.over) e
 

@@ -3,7 +3,7 @@ use Rattle.std.proofs.Common.{◌≡◌, ℕ, zero, suc, ◌<◌, Bool, true, fa
 use Rattle.std.proofs.lemmas.Int.{ints, by_lt_z}
 use Rattle.std.proofs.lemmas.Option.{slice_get_within}
 use Rattle.xc_corners.specs.Corners.{variables, Corner, Factors, IsSolvedForm}
-use Rattle.xc_corners.specs.Ending.{AreValuesWith, IsHalf, IsLeastQuotient, IsMargin, IsQuotientAt, IsSmallNumber, IsTinyProduct, IsValueWith, margin_taken}
+use Rattle.xc_corners.specs.Ending.{AreValuesWith, IsHalf, IsLeastQuotient, IsMargin, IsQuotientAt, IsSmallNumber, IsTinyProduct, IsValueWith, margin_operation}
 use Rattle.xc_corners.specs.Laws.{HasOneSolvedForm}
 use Rattle.xc_corners.specs.Operations.{Gives}
 use Rattle.xc_corners.specs.Problems.{WholeProblem}
@@ -50,8 +50,8 @@ neither_below f g h k = one_lowest f g (record {
 module _ (p : WholeProblem) (x : Corner) (t : Factors) where
   margin_once : (high : Bool) (j : ℕ) (c : Bool) (g h : Ratio) → IsMargin p x t high j c g → IsMargin p x t high j c h → g ≡ h
   margin_once high j c g h a b = by high c (a.limit) (a.value) g h a.gives
-      (subst (λ (l : Ratio). Gives Sub (margin_taken high c l a.value).left (margin_taken high c l a.value).right h) (sym limits)
-      (subst (λ (v : Ratio). Gives Sub (margin_taken high c b.limit v).left (margin_taken high c b.limit v).right h) (sym values) b.gives))
+      (subst (λ (l : Ratio). Gives Sub (margin_operation high c l a.value).left (margin_operation high c l a.value).right h) (sym limits)
+      (subst (λ (v : Ratio). Gives Sub (margin_operation high c b.limit v).left (margin_operation high c b.limit v).right h) (sym values) b.gives))
     where
       limits : a.limit ≡ b.limit
       limits = over_once a.limit b.limit _ _ a.is_limit b.is_limit
@@ -59,8 +59,8 @@ module _ (p : WholeProblem) (x : Corner) (t : Factors) where
       values : a.value ≡ b.value
       values = over_once a.value b.value _ _ a.is_value b.is_value
 
-      by : (high c : Bool) (l v g h : Ratio) → Gives Sub (margin_taken high c l v).left (margin_taken high c l v).right g → Gives Sub (margin_taken high c l v).left (margin_taken high c l v).right h → g ≡ h
-      by high c l v g h k m = difference_once (margin_taken high c l v).left (margin_taken high c l v).right g h k m
+      by : (high c : Bool) (l v g h : Ratio) → Gives Sub (margin_operation high c l v).left (margin_operation high c l v).right g → Gives Sub (margin_operation high c l v).left (margin_operation high c l v).right h → g ≡ h
+      by high c l v g h k m = difference_once (margin_operation high c l v).left (margin_operation high c l v).right g h k m
 
   quotient_at_once : (high : Bool) (j : ℕ) (q r : Ratio) → IsQuotientAt p x t high j q → IsQuotientAt p x t high j r → q ≡ r
   quotient_at_once high j q r a b = quotient_once a.real a.tiny q r a.gives

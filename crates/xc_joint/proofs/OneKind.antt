@@ -25,7 +25,7 @@ use Rattle.xc_system.specs.Systems.{Constraints, IsSystem, equation_at}
 use Rattle.xc_system.specs.declared.types.Bound.{Bound}
 use Rattle.xc_system.specs.declared.types.Certificate.TheVariants.{Feasible, Infeasible}
 use Rattle.xc_system.specs.declared.types.Component.{Component}
-use Rattle.xc_verify.specs.Feasible.{assigned}
+use Rattle.xc_verify.specs.Feasible.{assignment_of}
 
 -- lists that ascend
 
@@ -186,9 +186,9 @@ solved_not_refuted excludes may_solve joins s z r ok solves h = excludes s r z o
 module _ (links : LinksAreEquivalences) (within : HasWithin) (passing : ExcludesPassing) (solutions : ExcludesSolutions) (may_solve : SolvingMaySolve) (joins : PartContradicts) where
   pub one_kind : HasOneKind
   one_kind s (Settled (Feasible v)) (Settled (Feasible w)) ok h g = refl
-  one_kind s (Settled (Feasible v)) (Settled (Infeasible r)) ok h g = absurd (solved_not_refuted solutions may_solve joins s (assigned v) r ok h.0.1 g.0)
+  one_kind s (Settled (Feasible v)) (Settled (Infeasible r)) ok h g = absurd (solved_not_refuted solutions may_solve joins s (assignment_of v) r ok h.0.1 g.0)
   one_kind s (Settled (Feasible v)) (TooWide ps) ok h g = absurd (uncaused_not_parts s ps h.2 g)
-  one_kind s (Settled (Infeasible r)) (Settled (Feasible v)) ok h g = absurd (solved_not_refuted solutions may_solve joins s (assigned v) r ok g.0.1 h.0)
+  one_kind s (Settled (Infeasible r)) (Settled (Feasible v)) ok h g = absurd (solved_not_refuted solutions may_solve joins s (assignment_of v) r ok g.0.1 h.0)
   one_kind s (Settled (Infeasible r)) (Settled (Infeasible q)) ok h g = refl
   one_kind s (Settled (Infeasible r)) (TooWide ps) ok h g = absurd (refuted_not_parts links within passing joins s r ps ok h.0 g)
   one_kind s (TooWide ps) (Settled (Feasible v)) ok h g = absurd (uncaused_not_parts s ps g.2 h)

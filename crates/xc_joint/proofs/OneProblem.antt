@@ -12,7 +12,7 @@ use Rattle.xc_joint.proofs.Crossing.{first_tightest_once}
 use Rattle.xc_joint.proofs.SameLines.{permuted_once}
 use Rattle.xc_joint.proofs.Searched.{rises}
 use Rattle.xc_joint.specs.ComponentProblems.{IsProblemOf, IsTightestRange, IsWeightedPlace, IsWeightedRow}
-use Rattle.xc_joint.specs.CornerCauses.{AreTightestFacts, IsRefutationOf, named_by}
+use Rattle.xc_joint.specs.CornerCauses.{AreTightestFacts, IsRefutationOf, line_with_number}
 use Rattle.xc_joint.specs.Lists.{AreEach}
 use Rattle.xc_model.specs.Ratio.{Ratio}
 use Rattle.xc_system.specs.Components.{IsComponent}
@@ -103,11 +103,11 @@ refutation_once s c m r q h k = λ i. refutation_made (bindings i) (lows i) (hig
     bindings = h.bindings ∙ sym k.bindings
 
     lows : r.lows ≡ q.lows
-    lows = permuted_once (map (named_by h.low_facts) m.lows) r.lows q.lows h.lows
-        (subst (λ (facts : List ℕ). IsPermutation (map (named_by facts) m.lows) q.lows) (sym (facts_once s Low c.points h.low_facts k.low_facts h.lows_tightest k.lows_tightest)) k.lows)
+    lows = permuted_once (map (line_with_number h.low_facts) m.lows) r.lows q.lows h.lows
+        (subst (λ (facts : List ℕ). IsPermutation (map (line_with_number facts) m.lows) q.lows) (sym (facts_once s Low c.points h.low_facts k.low_facts h.lows_tightest k.lows_tightest)) k.lows)
         h.kept.lows_ascend k.kept.lows_ascend
 
     highs : r.highs ≡ q.highs
-    highs = permuted_once (map (named_by h.high_facts) m.highs) r.highs q.highs h.highs
-        (subst (λ (facts : List ℕ). IsPermutation (map (named_by facts) m.highs) q.highs) (sym (facts_once s High c.points h.high_facts k.high_facts h.highs_tightest k.highs_tightest)) k.highs)
+    highs = permuted_once (map (line_with_number h.high_facts) m.highs) r.highs q.highs h.highs
+        (subst (λ (facts : List ℕ). IsPermutation (map (line_with_number facts) m.highs) q.highs) (sym (facts_once s High c.points h.high_facts k.high_facts h.highs_tightest k.highs_tightest)) k.highs)
         h.kept.highs_ascend k.kept.highs_ascend

@@ -14,7 +14,7 @@ use Rattle.xc_interval.specs.Ranges.{AllKnown}
 use Rattle.xc_interval.specs.Tightest.{IsTighterHigh, IsTighterLow}
 use Rattle.xc_interval.specs.declared.ends.End.TheVariants.{Closed}
 use Rattle.xc_interval.specs.declared.interval.Interval.{Interval}
-use Rattle.xc_joint.specs.Answers.{placed, AreValuesOf}
+use Rattle.xc_joint.specs.Answers.{assignment_at, AreValuesOf}
 use Rattle.xc_joint.specs.ComponentProblems.{IsTightestRange}
 use Rattle.xc_joint.specs.Solved.{interval_at, number_at, number_total, signed_number, NumbersSolve}
 use Rattle.xc_joint.specs.Lists.{AreEach}
@@ -29,7 +29,7 @@ use Rattle.xc_model.specs.Ratio.{Ratio, fraction_of}
 use Rattle.xc_model.proofs.Numbers.{same-sum, same-trans}
 use Rattle.xc_system.specs.Components.{IsComponent}
 use Rattle.xc_lists.specs.Members.{IsIn}
-use Rattle.xc_system.specs.Solutions.{Admits, Holds, IsZero, weighed}
+use Rattle.xc_system.specs.Solutions.{Admits, Holds, IsZero, sum_over_entries}
 use Rattle.xc_system.specs.Spots.{HasTighter, IsFirstTightest, high_end, low_end}
 use Rattle.xc_system.specs.Systems.{Constraints, equation_at, facts_of, range_at}
 use Rattle.xc_system.specs.declared.types.Bound.{Bound}
@@ -44,15 +44,15 @@ use Rattle.xc_lists.proofs.Members.{places_in}
 abbrev pub Rise : List ℕ → Type 0
 Rise xs = (i j : ℕ) → i < j → j < length xs → get_or xs i 0 < get_or xs j 0
 
-pub placed_at : (points : List ℕ) (xs : List Ratio) (j : ℕ) → Rise points → j < length points → length xs ≡ length points → placed points xs (get_or points j 0) ≡ number_at xs j
+pub placed_at : (points : List ℕ) (xs : List Ratio) (j : ℕ) → Rise points → j < length points → length xs ≡ length points → assignment_at points xs (get_or points j 0) ≡ number_at xs j
 placed_at [] xs j up l long = absurd (omega (arith, l))
 placed_at (q ∷ qs) [] j up l long = absurd (omega (arith, long))
-placed_at (q ∷ qs) (x ∷ xs) zero up l long = ap (λ b. if b then fraction_of x else placed qs xs q) (eq-eqb q q refl)
+placed_at (q ∷ qs) (x ∷ xs) zero up l long = ap (λ b. if b then fraction_of x else assignment_at qs xs q) (eq-eqb q q refl)
 placed_at (q ∷ qs) (x ∷ xs) (suc j) up l long =
     let p = get_or qs j 0 in
     let above : q < p = up 0 (suc j) (omega arith) l in
     let apart : p ≢ q = λ e. omega (arith, above, e) in
-    ap (λ b. if b then fraction_of x else placed qs xs p) (ne_eqb p q apart) ∙ placed_at qs xs j (λ i k m n. up (suc i) (suc k) (omega (arith, m)) (omega (arith, n))) (omega (arith, l)) (omega (arith, long))
+    ap (λ b. if b then fraction_of x else assignment_at qs xs p) (ne_eqb p q apart) ∙ placed_at qs xs j (λ i k m n. up (suc i) (suc k) (omega (arith, m)) (omega (arith, n))) (omega (arith, l)) (omega (arith, long))
 
 -- ---- equations
 
@@ -73,13 +73,13 @@ signed_product true w y h =
     subst (λ f. SameNumber (product_of f y) (neg_of y)) (sym is) (record { cross = ap (λ a. a *ℤ pos y.den) (minus_times y.num) ∙ ap (λ (d : ℕ). neg_ℤ y.num *ℤ pos d) (sym e) })
 
 module _ (points : List ℕ) (xs : List Ratio) (up : Rise points) (long : length xs ≡ length points) where
-  weighed_row : (entries : List Entry) (row : List (ℕ × Bool)) → AreEach (IsSignedPlace points) entries row → SameNumber (weighed entries (placed points xs)) (number_total row (number_at xs))
+  weighed_row : (entries : List Entry) (row : List (ℕ × Bool)) → AreEach (IsSignedPlace points) entries row → SameNumber (sum_over_entries entries (assignment_at points xs)) (number_total row (number_at xs))
   weighed_row [] [] h = record { cross = refl }
   weighed_row [] (r ∷ row) h = absurd h
   weighed_row (entry ∷ entries) [] h = absurd h
   weighed_row (entry ∷ entries) (r ∷ row) h =
-      let value : placed points xs entry.point ≡ number_at xs r.0 = ap (placed points xs) (sym h.0.there) ∙ placed_at points xs r.0 up h.0.inside long in
-      let one : SameNumber (product_of (fraction_of entry.weight) (placed points xs entry.point)) (signed_number r.1 (number_at xs r.0)) = subst (λ y. SameNumber (product_of (fraction_of entry.weight) y) (signed_number r.1 (number_at xs r.0))) (sym value) (signed_product r.1 entry.weight (number_at xs r.0) h.0.sign) in
+      let value : assignment_at points xs entry.point ≡ number_at xs r.0 = ap (assignment_at points xs) (sym h.0.there) ∙ placed_at points xs r.0 up h.0.inside long in
+      let one : SameNumber (product_of (fraction_of entry.weight) (assignment_at points xs entry.point)) (signed_number r.1 (number_at xs r.0)) = subst (λ y. SameNumber (product_of (fraction_of entry.weight) y) (signed_number r.1 (number_at xs r.0))) (sym value) (signed_product r.1 entry.weight (number_at xs r.0) h.0.sign) in
       same-sum _ _ _ _ one (weighed_row entries row h.1)
 
 -- ---- facts
@@ -156,10 +156,10 @@ module _ (lows : LowsCompare) (highs : HighsCompare) (s : Constraints) (c : Comp
   pub long : length xs ≡ length c.points
   long = each ∙ each_length (IsTightestRange s) c.points ranges tight
 
-  admitted : (k : ℕ) (bound : Bound) → slice_get s.bounds k ≡ Some bound → IsIn bound.point c.points → Admits bound (placed c.points xs bound.point)
+  admitted : (k : ℕ) (bound : Bound) → slice_get s.bounds k ≡ Some bound → IsIn bound.point c.points → Admits bound (assignment_at c.points xs bound.point)
   admitted k bound there inside = go (slice_get_cases s.bounds k).1
     where
-      go : ((b : Bound) × (k < length s.bounds) × (slice_get s.bounds k ≡ Some b) × (get_or s.bounds k b ≡ b)) ⊎ ((length s.bounds ≤ k) × (slice_get s.bounds k ≡ None)) → Admits bound (placed c.points xs bound.point)
+      go : ((b : Bound) × (k < length s.bounds) × (slice_get s.bounds k ≡ Some b) × (get_or s.bounds k b ≡ b)) ⊎ ((length s.bounds ≤ k) × (slice_get s.bounds k ≡ None)) → Admits bound (assignment_at c.points xs bound.point)
       go (inl (b, l, found, at)) =
           let same : b ≡ bound = let e : Some b ≡ Some bound = sym found ∙ there in cc in
           let place = place_of bound.point c.points inside in
@@ -169,23 +169,23 @@ module _ (lows : LowsCompare) (highs : HighsCompare) (s : Constraints) (c : Comp
           let owner : get_or (map (λ (x : Bound). x.point) s.bounds) k 0 ≡ get_or c.points j 0 = get_or-map (λ (x : Bound). x.point) s.bounds k b 0 l ∙ ap (λ (x : Bound). x.point) at ∙ ap (λ (x : Bound). x.point) same ∙ sym place.2 in
           let listed : IsIn k (facts_of s.bounds (get_or c.points j 0)) = places_in (map (λ x. x.point) s.bounds) (get_or c.points j 0) k (let e = length-map s.bounds (λ (x : Bound). x.point) in omega (arith, e, l)) owner in
           let has = all_have lows highs s (get_or c.points j 0) r.0 (subst (λ (q : ℕ). AllKnown (map (range_at s.bounds) (facts_of s.bounds q))) (sym place.2) (known bound.point inside)) r.1 (number_at xs j) lies k listed in
-          let value : placed c.points xs bound.point ≡ number_at xs j = ap (placed c.points xs) (sym place.2) ∙ placed_at c.points xs j up place.1 long in
+          let value : assignment_at c.points xs bound.point ≡ number_at xs j = ap (assignment_at c.points xs) (sym place.2) ∙ placed_at c.points xs j up place.1 long in
           let range : range_at s.bounds k ≡ bound.range = ap (λ (o : Option Bound). option_map_or (λ x. x.range) o None) there in
           subst (λ y. IsSomeAnd bound.range (λ interval. HasNumber (numbers_of interval) y)) (sym value) (subst (λ o. IsSomeAnd o (λ interval. HasNumber (numbers_of interval) (number_at xs j))) range has)
       go (inr (past, none)) = absurd (let e : None ≡ Some bound = sym none ∙ there in cc)
 
-  module _ (zero_at : (j : ℕ) → j < length c.equations → IsZero (weighed (equation_at s.equations (get_or c.equations j 0)).entries (placed c.points xs))) where
-    met : (i : ℕ) (equation : Equation) → slice_get s.equations i ≡ Some equation → IsIn i c.equations → Holds equation (placed c.points xs)
+  module _ (zero_at : (j : ℕ) → j < length c.equations → IsZero (sum_over_entries (equation_at s.equations (get_or c.equations j 0)).entries (assignment_at c.points xs))) where
+    met : (i : ℕ) (equation : Equation) → slice_get s.equations i ≡ Some equation → IsIn i c.equations → Holds equation (assignment_at c.points xs)
     met i equation there inside = go (slice_get_cases s.equations i).1
       where
         equal : i < length s.equations → equation_at s.equations i ≡ equation
         equal l = let e : Some (equation_at s.equations i) ≡ Some equation = sym (slice_get-get_or s.equations i (record { entries = [] }) l) ∙ there in cc
 
-        go : ((b : Equation) × (i < length s.equations) × (slice_get s.equations i ≡ Some b) × (get_or s.equations i b ≡ b)) ⊎ ((length s.equations ≤ i) × (slice_get s.equations i ≡ None)) → Holds equation (placed c.points xs)
+        go : ((b : Equation) × (i < length s.equations) × (slice_get s.equations i ≡ Some b) × (get_or s.equations i b ≡ b)) ⊎ ((length s.equations ≤ i) × (slice_get s.equations i ≡ None)) → Holds equation (assignment_at c.points xs)
         go (inl (b, l, found, at)) =
             let place = place_of i c.equations inside in
-            let zero = subst (λ (n : ℕ). IsZero (weighed (equation_at s.equations n).entries (placed c.points xs))) place.2 (zero_at place.0 place.1) in
-            subst (λ (e : Equation). IsZero (weighed e.entries (placed c.points xs))) (equal l) zero
+            let zero = subst (λ (n : ℕ). IsZero (sum_over_entries (equation_at s.equations n).entries (assignment_at c.points xs))) place.2 (zero_at place.0 place.1) in
+            subst (λ (e : Equation). IsZero (sum_over_entries e.entries (assignment_at c.points xs))) (equal l) zero
         go (inr (past, none)) = absurd (let e : None ≡ Some equation = sym none ∙ there in cc)
 
     pub values_of : AreValuesOf s c xs
@@ -201,7 +201,7 @@ module _ (lows : LowsCompare) (highs : HighsCompare) (s : Constraints) (c : Comp
   pub are_values : AreValuesOf s c xs
   are_values = values_of lows highs s c is known ranges tight xs solve.each solve.within zero_at
     where
-      zero_at : (j : ℕ) → j < length c.equations → IsZero (weighed (equation_at s.equations (get_or c.equations j 0)).entries (placed c.points xs))
+      zero_at : (j : ℕ) → j < length c.equations → IsZero (sum_over_entries (equation_at s.equations (get_or c.equations j 0)).entries (assignment_at c.points xs))
       zero_at j m =
           let many = each_length (IsRowOf s c.points) c.equations rows rows_are in
           let row : AreEach (IsSignedPlace c.points) (equation_at s.equations (get_or c.equations j 0)).entries (row_at rows j) = each_at (IsRowOf s c.points) c.equations rows j 0 [] rows_are m in

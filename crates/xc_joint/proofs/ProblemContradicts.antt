@@ -8,13 +8,13 @@ use Rattle.std.specs.List.Sorted.{IsNonDecreasingBy, IsStrictlySortedBy}
 use Rattle.std.specs.Option.{option_map_or}
 use Rattle.std.specs.Ordering.{nat_cmp}
 use Rattle.std.specs.Prelude.{All, slice_get, IsTrue}
-use Rattle.xc_corners.specs.Answers.{AreListed, Contradicts, one_at, weighed as row_weighed, coefficient as row_coefficient, constant as row_constant, low_at as row_low_at, high_at as row_high_at, is_low_open as is_row_low_open, is_high_open as is_row_high_open, IsShort as IsRowShort, lists_open as row_lists_open}
+use Rattle.xc_corners.specs.Answers.{AreListed, Contradicts, one_at, sum_over_lines as row_weighed, coefficient as row_coefficient, constant as row_constant, low_at as row_low_at, high_at as row_high_at, is_low_open as is_row_low_open, is_high_open as is_row_high_open, IsShort as IsRowShort, lists_open as row_lists_open}
 use Rattle.xc_corners.specs.declared.multipliers.Multipliers.{Multipliers as ProblemMultipliers}
 use Rattle.xc_corners.specs.declared.problem.Problem.{Problem}
 use Rattle.xc_interval.specs.Ends.{value_of, is_open}
 use Rattle.xc_interval.specs.declared.ends.End.{End}
 use Rattle.xc_interval.specs.declared.interval.Interval.{Interval}
-use Rattle.xc_joint.specs.CornerCauses.{named_by}
+use Rattle.xc_joint.specs.CornerCauses.{line_with_number}
 use Rattle.xc_joint.specs.ComponentProblems.{IsWeightedPlace, IsWeightedRow}
 use Rattle.xc_joint.specs.Lists.{AreEach}
 use Rattle.xc_joint.specs.Steps.OneForest.{IsRangeOf, IsSpanOf}
@@ -38,7 +38,7 @@ use Rattle.xc_model.specs.Ratio.{Ratio, fraction_of}
 use Rattle.xc_system.specs.Components.{IsComponent}
 use Rattle.xc_system.specs.Kept.{IsAscending, IsRefutation, Multipliers}
 use Rattle.xc_system.specs.Refutations.{IsContradictionOf, IsKnown, IsKnownIn, IsShort, coefficient, constant, high_at, is_high_open, is_low_open, lists_open, low_at, total, unit_at}
-use Rattle.xc_system.specs.Solutions.{IsZero, weighed}
+use Rattle.xc_system.specs.Solutions.{IsZero, sum_over_entries}
 use Rattle.xc_system.specs.Systems.{Constraints, equation_at, facts_of, point_at, range_at}
 use Rattle.xc_system.specs.declared.types.Component.{Component}
 use Rattle.xc_system.specs.declared.types.Entry.{Entry}
@@ -56,11 +56,11 @@ all_by P Q f [] h = tt
 all_by P Q f (x ∷ xs) h = (f x h.0, all_by P Q f xs h.1)
 
 module _ (numbers : List ℕ) where
-  named_all : (P : ℕ → Type 0) (lines : List (ℕ × Ratio)) → AllByRecursion (λ line. P (get_or numbers line.0 0)) lines → AllByRecursion (λ m. P m.0) (map (named_by numbers) lines)
+  named_all : (P : ℕ → Type 0) (lines : List (ℕ × Ratio)) → AllByRecursion (λ line. P (get_or numbers line.0 0)) lines → AllByRecursion (λ m. P m.0) (map (line_with_number numbers) lines)
   named_all P [] h = tt
   named_all P (line ∷ lines) h = (h.0, named_all P lines h.1)
 
-  named_factors : (P : Ratio → Type 0) (lines : List (ℕ × Ratio)) → AllByRecursion (λ line. P line.1) lines → AllByRecursion (λ m. P m.1) (map (named_by numbers) lines)
+  named_factors : (P : Ratio → Type 0) (lines : List (ℕ × Ratio)) → AllByRecursion (λ line. P line.1) lines → AllByRecursion (λ m. P m.1) (map (line_with_number numbers) lines)
   named_factors P [] h = tt
   named_factors P (line ∷ lines) h = (h.0, named_factors P lines h.1)
 
@@ -79,7 +79,7 @@ same_one points p j k up l is m = by (k == p) refl
         ap (λ b. if b then whole (pos 1) else whole (pos 0)) (ne_eqb (get_or points k 0) j other) ∙ ap (λ b. if b then whole (pos 1) else whole (pos 0)) (sym e)
 
 -- an equation has it as often as its row has its place
-entries_weigh : (points : List ℕ) (p j : ℕ) → IsStrictlySortedBy nat_cmp points → p < length points → get_or points p 0 ≡ j → (entries : List Entry) (row : List (ℕ × Ratio)) → AreEach (IsWeightedPlace points) entries row → weighed entries (unit_at j) ≡ row_weighed row (one_at p)
+entries_weigh : (points : List ℕ) (p j : ℕ) → IsStrictlySortedBy nat_cmp points → p < length points → get_or points p 0 ≡ j → (entries : List Entry) (row : List (ℕ × Ratio)) → AreEach (IsWeightedPlace points) entries row → sum_over_entries entries (unit_at j) ≡ row_weighed row (one_at p)
 entries_weigh points p j up l is [] [] h = refl
 entries_weigh points p j up l is [] (r ∷ rs) h = absurd h
 entries_weigh points p j up l is (e ∷ es) [] h = absurd h
@@ -121,7 +121,7 @@ module _ (s : Constraints) (c : Component) (is : IsComponent s c) (facts : List 
   apart i j l m e = same_place c.points i j is.points_ascend (omega (arith, l, size)) (omega (arith, m, size)) (sym (owner_of i l) ∙ ap (point_at s.bounds) e ∙ owner_of j m)
 
   -- their lines, sorted
-  module _ (lines ms : List (ℕ × Ratio)) (listed : AreListed (length facts) lines) (moved : IsPermutation (map (named_by facts) lines) ms) where
+  module _ (lines ms : List (ℕ × Ratio)) (listed : AreListed (length facts) lines) (moved : IsPermutation (map (line_with_number facts) lines) ms) where
     below : AllByRecursion (λ line. line.0 < length facts) lines
     below = recursion_from_All (λ line. line.0 < length facts) lines listed.below
 
@@ -129,10 +129,10 @@ module _ (s : Constraints) (c : Component) (is : IsComponent s c) (facts : List 
     side_ascends sorted = sorted_ascend facts lines below apart (once_of_ascending (map (λ line. line.0) lines) listed.ascend) ms moved sorted
 
     side_positive : All (λ line. pos 0 <ℤ line.1.num) lines → All (λ m. pos 0 <ℤ m.1.num) ms
-    side_positive h = All-permutation (λ m. pos 0 <ℤ m.1.num) (map (named_by facts) lines) ms moved (All-from_recursion (λ m. pos 0 <ℤ m.1.num) (map (named_by facts) lines) (named_factors facts (λ w. pos 0 <ℤ w.num) lines (recursion_from_All (λ line. pos 0 <ℤ line.1.num) lines h)))
+    side_positive h = All-permutation (λ m. pos 0 <ℤ m.1.num) (map (line_with_number facts) lines) ms moved (All-from_recursion (λ m. pos 0 <ℤ m.1.num) (map (line_with_number facts) lines) (named_factors facts (λ w. pos 0 <ℤ w.num) lines (recursion_from_All (λ line. pos 0 <ℤ line.1.num) lines h)))
 
     side_own : ((q k : ℕ) → IsIn q c.points → IsIn k (facts_of s.bounds q) → IsKnown s k) → All (λ m. IsKnownIn s c m.0) ms
-    side_own known = All-permutation (λ m. IsKnownIn s c m.0) (map (named_by facts) lines) ms moved (All-from_recursion (λ m. IsKnownIn s c m.0) (map (named_by facts) lines) (named_all facts (IsKnownIn s c) lines (all_by (λ line. line.0 < length facts) (λ line. IsKnownIn s c (get_or facts line.0 0)) one lines below)))
+    side_own known = All-permutation (λ m. IsKnownIn s c m.0) (map (line_with_number facts) lines) ms moved (All-from_recursion (λ m. IsKnownIn s c m.0) (map (line_with_number facts) lines) (named_all facts (IsKnownIn s c) lines (all_by (λ line. line.0 < length facts) (λ line. IsKnownIn s c (get_or facts line.0 0)) one lines below)))
       where
         one : (line : ℕ × Ratio) → line.0 < length facts → IsKnownIn s c (get_or facts line.0 0)
         one line l =
@@ -141,10 +141,10 @@ module _ (s : Constraints) (c : Component) (is : IsComponent s c) (facts : List 
 
     -- a sum over them is that over the places
     side_total : (f g : ℕ → Fraction) → ((q : ℕ) → q < length facts → f (get_or facts q 0) ≡ g q) → SameNumber (total ms f) (row_weighed lines g)
-    side_total f g same = subst (SameNumber (total ms f)) (named_total facts f g lines (all_by (λ line. line.0 < length facts) (λ line. f (get_or facts line.0 0) ≡ g line.0) (λ line l. same line.0 l) lines below)) (same-sym _ _ (total_permuted f (map (named_by facts) lines) ms moved))
+    side_total f g same = subst (SameNumber (total ms f)) (named_total facts f g lines (all_by (λ line. line.0 < length facts) (λ line. f (get_or facts line.0 0) ≡ g line.0) (λ line l. same line.0 l) lines below)) (same-sym _ _ (total_permuted f (map (line_with_number facts) lines) ms moved))
 
     side_any : (f g : ℕ → Bool) → ((q : ℕ) → q < length facts → f (get_or facts q 0) ≡ g q) → list_any (λ line. g line.0) lines ≡ list_any (λ m. f m.0) ms
-    side_any f g same = sym (named_any facts f g lines (all_by (λ line. line.0 < length facts) (λ line. f (get_or facts line.0 0) ≡ g line.0) (λ line l. same line.0 l) lines below)) ∙ list_any-IsPermutation (λ (m : ℕ × Ratio). f m.0) (map (named_by facts) lines) ms moved
+    side_any f g same = sym (named_any facts f g lines (all_by (λ line. line.0 < length facts) (λ line. f (get_or facts line.0 0) ≡ g line.0) (λ line l. same line.0 l) lines below)) ∙ list_any-IsPermutation (λ (m : ℕ × Ratio). f m.0) (map (line_with_number facts) lines) ms moved
 
     side_coefficient : (p j : ℕ) → p < length c.points → get_or c.points p 0 ≡ j → SameNumber (total ms (λ k. unit_at j (point_at s.bounds k))) (row_weighed lines (one_at p))
     side_coefficient p j l at = side_total (λ k. unit_at j (point_at s.bounds k)) (one_at p) (λ q m. ap (unit_at j) (owner_of q m) ∙ same_one c.points p j q is.points_ascend l at (omega (arith, m, size)))
@@ -185,7 +185,7 @@ module _ (s : Constraints) (c : Component) (is : IsComponent s c) (spans : List 
       bindings_ascend = subst IsAscending (sym made.bindings) (named_ascend c.equations m.rows (recursion_from_All (λ line. line.0 < length c.equations) m.rows rows_listed.below) (rises c.equations is.equations_ascend) rows_listed.ascend);
       lows_ascend = side_ascends s c is (low_facts spans) lows_own m.lows r.lows lows_listed made.lows lows_fall;
       highs_ascend = side_ascends s c is (high_facts spans) highs_own m.highs r.highs highs_listed made.highs highs_fall;
-      bindings_count = subst (λ ms. All (λ l. l.1.num ≢ pos 0) ms) (sym made.bindings) (All-from_recursion (λ l. l.1.num ≢ pos 0) (map (named_by c.equations) m.rows) (named_factors c.equations (λ w. w.num ≢ pos 0) m.rows (recursion_from_All (λ line. line.1.num ≢ pos 0) m.rows against.rows_count)));
+      bindings_count = subst (λ ms. All (λ l. l.1.num ≢ pos 0) ms) (sym made.bindings) (All-from_recursion (λ l. l.1.num ≢ pos 0) (map (line_with_number c.equations) m.rows) (named_factors c.equations (λ w. w.num ≢ pos 0) m.rows (recursion_from_All (λ line. line.1.num ≢ pos 0) m.rows against.rows_count)));
       lows_positive = side_positive s c is (low_facts spans) lows_own m.lows r.lows lows_listed made.lows against.lows_positive;
       highs_positive = side_positive s c is (high_facts spans) highs_own m.highs r.highs highs_listed made.highs against.highs_positive;
     }
@@ -194,14 +194,14 @@ module _ (s : Constraints) (c : Component) (is : IsComponent s c) (spans : List 
     known q k there of = spans_known s c.points spans h.bounded q there k of
 
     bindings_own : All (λ l. IsIn l.0 c.equations) r.bindings
-    bindings_own = subst (λ ms. All (λ l. IsIn l.0 c.equations) ms) (sym made.bindings) (All-from_recursion (λ l. IsIn l.0 c.equations) (map (named_by c.equations) m.rows) (named_all c.equations (λ i. IsIn i c.equations) m.rows
+    bindings_own = subst (λ ms. All (λ l. IsIn l.0 c.equations) ms) (sym made.bindings) (All-from_recursion (λ l. IsIn l.0 c.equations) (map (line_with_number c.equations) m.rows) (named_all c.equations (λ i. IsIn i c.equations) m.rows
         (all_by (λ line. line.0 < length c.equations) (λ line. IsIn (get_or c.equations line.0 0) c.equations) (λ line l. is_in_at c.equations line.0 l) m.rows (recursion_from_All (λ line. line.0 < length c.equations) m.rows rows_listed.below))))
 
-    bindings_weigh : (p j : ℕ) → p < length c.points → get_or c.points p 0 ≡ j → total r.bindings (λ i. weighed (equation_at s.equations i).entries (unit_at j)) ≡ row_weighed m.rows (λ i. row_weighed (get_or problem.rows i []) (one_at p))
-    bindings_weigh p j l at = ap (λ ms. total ms (λ i. weighed (equation_at s.equations i).entries (unit_at j))) made.bindings
-        ∙ named_total c.equations (λ i. weighed (equation_at s.equations i).entries (unit_at j)) (λ i. row_weighed (get_or problem.rows i []) (one_at p)) m.rows (all_by (λ line. line.0 < length c.equations) (λ line. weighed (equation_at s.equations (get_or c.equations line.0 0)).entries (unit_at j) ≡ row_weighed (get_or problem.rows line.0 []) (one_at p)) one m.rows (recursion_from_All (λ line. line.0 < length c.equations) m.rows rows_listed.below))
+    bindings_weigh : (p j : ℕ) → p < length c.points → get_or c.points p 0 ≡ j → total r.bindings (λ i. sum_over_entries (equation_at s.equations i).entries (unit_at j)) ≡ row_weighed m.rows (λ i. row_weighed (get_or problem.rows i []) (one_at p))
+    bindings_weigh p j l at = ap (λ ms. total ms (λ i. sum_over_entries (equation_at s.equations i).entries (unit_at j))) made.bindings
+        ∙ named_total c.equations (λ i. sum_over_entries (equation_at s.equations i).entries (unit_at j)) (λ i. row_weighed (get_or problem.rows i []) (one_at p)) m.rows (all_by (λ line. line.0 < length c.equations) (λ line. sum_over_entries (equation_at s.equations (get_or c.equations line.0 0)).entries (unit_at j) ≡ row_weighed (get_or problem.rows line.0 []) (one_at p)) one m.rows (recursion_from_All (λ line. line.0 < length c.equations) m.rows rows_listed.below))
       where
-        one : (line : ℕ × Ratio) → line.0 < length c.equations → weighed (equation_at s.equations (get_or c.equations line.0 0)).entries (unit_at j) ≡ row_weighed (get_or problem.rows line.0 []) (one_at p)
+        one : (line : ℕ × Ratio) → line.0 < length c.equations → sum_over_entries (equation_at s.equations (get_or c.equations line.0 0)).entries (unit_at j) ≡ row_weighed (get_or problem.rows line.0 []) (one_at p)
         one line k = entries_weigh c.points p j is.points_ascend l at (equation_at s.equations (get_or c.equations line.0 0)).entries (get_or problem.rows line.0 []) (each_at (IsWeightedRow s c.points) c.equations problem.rows line.0 0 [] h.rows k)
 
     cancels : (j : ℕ) → IsIn j c.points → IsZero (coefficient s r j)
@@ -210,7 +210,7 @@ module _ (s : Constraints) (c : Component) (is : IsComponent s c) (spans : List 
         let lows = side_coefficient s c is (low_facts spans) lows_own m.lows r.lows lows_listed made.lows place.0 j place.1 place.2 in
         let highs = side_coefficient s c is (high_facts spans) highs_own m.highs r.highs highs_listed made.highs place.0 j place.1 place.2 in
         let bindings = bindings_weigh place.0 j place.1 place.2 in
-        let same : SameNumber (coefficient s r j) (row_coefficient problem m place.0) = same-sum _ _ _ _ (subst (SameNumber (total r.bindings (λ i. weighed (equation_at s.equations i).entries (unit_at j)))) bindings (same-refl _)) (same-sum _ _ _ _ lows (same-neg _ _ highs)) in
+        let same : SameNumber (coefficient s r j) (row_coefficient problem m place.0) = same-sum _ _ _ _ (subst (SameNumber (total r.bindings (λ i. sum_over_entries (equation_at s.equations i).entries (unit_at j)))) bindings (same-refl _)) (same-sum _ _ _ _ lows (same-neg _ _ highs)) in
         zero_same (row_coefficient problem m place.0) (coefficient s r j) (same-sym _ _ same) (against.cancels place.0 (omega (arith, place.1, ranges_many)))
 
     low_value : (q : ℕ) → q < length (low_facts spans) → low_at s (get_or (low_facts spans) q 0) ≡ row_low_at problem q

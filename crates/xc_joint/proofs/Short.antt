@@ -17,7 +17,7 @@ use Rattle.xc_forest.specs.Laws.{SumsAreOver}
 use Rattle.xc_interval.specs.Ends.{is_open, value_of}
 use Rattle.xc_interval.specs.declared.interval.Interval.{Interval}
 use Rattle.xc_joint.specs.Small.{closed_pairs, low_pair, high_pair}
-use Rattle.xc_joint.specs.Steps.Multiplied.{highs_of, lows_of, IsContradicted, IsListed, IsMadeOf}
+use Rattle.xc_joint.specs.Steps.Multiplied.{named_high_facts, named_low_facts, IsContradicted, IsListed, IsMadeOf}
 use Rattle.xc_joint.specs.Lists.{AreEach}
 use Rattle.xc_joint.specs.Steps.OneForest.{IsRangeOf}
 use Rattle.xc_joint.specs.declared.one_forest.Span.{Span}
@@ -190,7 +190,7 @@ module _ (s : Constraints) where
   high_open : (x : Span) (r : Interval Ratio) → IsRangeOf s x r → is_open r.high ≡ is_high_open s x.high
   high_open x r h = ap (λ e. is_open e) h.high_is ∙ sym (ap (λ o. option_map_or (λ interval. is_open interval.high) o false) h.high_known)
 
-  real_named : (spans : List Span) (ranges : List (Interval Ratio)) (ends : List ℤ) → AreEach (IsRangeOf s) spans ranges → length ends ≡ length ranges → sum_below (length (map closed_pairs ranges)) (λ j. times D (named ranges ends j).real) ≡ sum_of_list L (lows_of spans ends) -ℤ sum_of_list H (highs_of spans ends)
+  real_named : (spans : List Span) (ranges : List (Interval Ratio)) (ends : List ℤ) → AreEach (IsRangeOf s) spans ranges → length ends ≡ length ranges → sum_below (length (map closed_pairs ranges)) (λ j. times D (named ranges ends j).real) ≡ sum_of_list L (named_low_facts spans ends) -ℤ sum_of_list H (named_high_facts spans ends)
   real_named [] [] [] h l = refl
   real_named [] [] (e ∷ ends) h l = absurd (omega (arith, l))
   real_named [] (r ∷ ranges) ends h l = absurd h
@@ -205,16 +205,16 @@ module _ (s : Constraints) where
       let i = real_named spans ranges ends h.1 (omega (arith, l)) in
       let f = first_below (length (map closed_pairs ranges)) (λ j. times D (named (r ∷ ranges) (pos (suc n) ∷ ends) j).real) in
       let k : times D (fraction_of (value_of r.low)) ≡ L x.low = ap (times D) (low_value x r h.0) in
-      let m = next_sum L x.low (lows_of spans ends) in
+      let m = next_sum L x.low (named_low_facts spans ends) in
       omega (arith, ints, i, f, k, m)
   real_named (x ∷ spans) (r ∷ ranges) (negsuc n ∷ ends) h l =
       let i = real_named spans ranges ends h.1 (omega (arith, l)) in
       let f = first_below (length (map closed_pairs ranges)) (λ j. times D (named (r ∷ ranges) (negsuc n ∷ ends) j).real) in
       let k : times D (neg_of (fraction_of (value_of r.high))) ≡ neg_ℤ (H x.high) = neg-mul (fraction_of (value_of r.high)).num (pos (D / (fraction_of (value_of r.high)).den)) ∙ ap (λ y. neg_ℤ (times D y)) (high_value x r h.0) in
-      let m = next_sum H x.high (highs_of spans ends) in
+      let m = next_sum H x.high (named_high_facts spans ends) in
       omega (arith, ints, i, f, k, m)
 
-  tiny_named : (spans : List Span) (ranges : List (Interval Ratio)) (ends : List ℤ) → AreEach (IsRangeOf s) spans ranges → length ends ≡ length ranges → sum_below (length (map closed_pairs ranges)) (λ j. times D (named ranges ends j).tiny) ≡ pos (sum_by low_opens (lows_of spans ends) + sum_by high_opens (highs_of spans ends))
+  tiny_named : (spans : List Span) (ranges : List (Interval Ratio)) (ends : List ℤ) → AreEach (IsRangeOf s) spans ranges → length ends ≡ length ranges → sum_below (length (map closed_pairs ranges)) (λ j. times D (named ranges ends j).tiny) ≡ pos (sum_by low_opens (named_low_facts spans ends) + sum_by high_opens (named_high_facts spans ends))
   tiny_named [] [] [] h l = refl
   tiny_named [] [] (e ∷ ends) h l = absurd (omega (arith, l))
   tiny_named [] (r ∷ ranges) ends h l = absurd h
@@ -229,13 +229,13 @@ module _ (s : Constraints) where
       let i = tiny_named spans ranges ends h.1 (omega (arith, l)) in
       let f = first_below (length (map closed_pairs ranges)) (λ j. times D (named (r ∷ ranges) (pos (suc n) ∷ ends) j).tiny) in
       let k : times D (low_pair r.low).tiny ≡ pos (low_opens x.low) = low_times D (is_open r.low) ∙ ap (λ b. pos (if b then D else 0)) (low_open x r h.0) in
-      let m = more_sum low_opens x.low (lows_of spans ends) in
+      let m = more_sum low_opens x.low (named_low_facts spans ends) in
       omega (arith, ints, i, f, k, m)
   tiny_named (x ∷ spans) (r ∷ ranges) (negsuc n ∷ ends) h l =
       let i = tiny_named spans ranges ends h.1 (omega (arith, l)) in
       let f = first_below (length (map closed_pairs ranges)) (λ j. times D (named (r ∷ ranges) (negsuc n ∷ ends) j).tiny) in
       let k : times D (neg_of (high_pair r.high).tiny) ≡ pos (high_opens x.high) = high_times D (is_open r.high) ∙ ap (λ b. pos (if b then D else 0)) (high_open x r h.0) in
-      let m = more_sum high_opens x.high (highs_of spans ends) in
+      let m = more_sum high_opens x.high (named_high_facts spans ends) in
       omega (arith, ints, i, f, k, m)
 
   abbrev scaled : Parts → WholeParts
@@ -294,8 +294,8 @@ is_short sums_over s c spans by ends r h m =
     let sums = sums_over (length (map closed_pairs h.ranges)) (named s h.ranges ends) (λ j. scaled s (named s h.ranges ends j)) d p (named_over s spans h.ranges ends h.ranges_are many) in
     let real = real_named s spans h.ranges ends h.ranges_are many in
     let tiny = tiny_named s spans h.ranges ends h.ranges_are many in
-    let same_lows = same_list (L s) (lows_of spans ends) m.lows m.lows_are in
-    let same_highs = same_list (H s) (highs_of spans ends) m.highs m.highs_are in
+    let same_lows = same_list (L s) (named_low_facts spans ends) m.lows m.lows_are in
+    let same_highs = same_list (H s) (named_high_facts spans ends) m.highs m.highs_are in
     let total_parts = parts_below (length (map closed_pairs h.ranges)) (named s h.ranges ends) in
     elim h.contradicts.positive [
       | inl less ↦
@@ -308,8 +308,8 @@ is_short sums_over s c spans by ends r h m =
           let zero = same_over (constant s r) (whole (pos 0)) _ (pos 0) d made none (omega (arith, ints, equal, real, same_lows, same_highs)) in
           let k = zero.cross in
           let positive = below_number (whole (pos 0)) total_parts.tiny (pos 0) _ d none sums.tiny less in
-          let low_count = sum_by-IsPermutation (low_opens s) (lows_of spans ends) m.lows m.lows_are in
-          let high_count = sum_by-IsPermutation (high_opens s) (highs_of spans ends) m.highs m.highs_are in
+          let low_count = sum_by-IsPermutation (low_opens s) (named_low_facts spans ends) m.lows m.lows_are in
+          let high_count = sum_by-IsPermutation (high_opens s) (named_high_facts spans ends) m.highs m.highs_are in
           let some : 0 < sum_by (low_opens s) m.lows + sum_by (high_opens s) m.highs = omega (arith, ints, positive, tiny, low_count, high_count) in
           inr (
             omega (arith, ints, k),

@@ -2,7 +2,7 @@
 use Rattle.std.proofs.Common.{◌≡◌, ℕ, zero, suc, ◌*◌, ◌<◌, Bool, true, false, List, [], ◌∷◌, length, map, ℤ, pos, neg_ℤ, ◌+ℤ◌, ◌*ℤ◌, inl, inr, refl, ◌∙◌, arith, Result, Err, subst}
 use Rattle.std.proofs.lemmas.Int.{ints}
 use Rattle.std.proofs.lemmas.List.{length-map}
-use Rattle.xc_forest.specs.Forests.{row_at, row_total, signed, range_at as span_at, value_at as parts_at}
+use Rattle.xc_forest.specs.Forests.{row_at, row_total, parts_with_sign, range_at as span_at, value_at as parts_at}
 use Rattle.xc_frac.specs.declared.delta.Delta.{Delta}
 use Rattle.xc_interval.specs.Intervals.{numbers_of, HasNumber, HasPair, IsBefore, IsPast}
 use Rattle.xc_interval.specs.declared.ends.End.{End}
@@ -55,7 +55,7 @@ at_neg x s =
 none_at : (s : Fraction) → SameNumber (at zero_parts s) (whole (pos 0))
 none_at s = at_zero (whole (pos 0)) s
 
-at_signed : (b : Bool) (x : Parts) (y s : Fraction) → SameNumber (at x s) y → SameNumber (at (signed b x) s) (signed_number b y)
+at_signed : (b : Bool) (x : Parts) (y s : Fraction) → SameNumber (at x s) y → SameNumber (at (parts_with_sign b x) s) (signed_number b y)
 at_signed false x y s h = h
 at_signed true x y s h = same-trans (at (neg_parts x) s) (neg_of (at x s)) (neg_of y) (at_neg x s) (same-neg (at x s) y h)
 
@@ -64,7 +64,7 @@ at_row [] z f s h = none_at s
 at_row (entry ∷ row) z f s h =
     let one = at_signed entry.1 (z entry.0) (f entry.0) s (h entry.0) in
     let others = at_row row z f s h in
-    let x = signed entry.1 (z entry.0) in
+    let x = parts_with_sign entry.1 (z entry.0) in
     let rest = row_total row z in
     same-trans (at (sum_parts x rest) s) (sum_of (at x s) (at rest s)) (number_total (entry ∷ row) f) (at_sum x rest s) (same-sum (at x s) (at rest s) _ _ one others)
 

@@ -5,7 +5,7 @@ use Rattle.std.specs.List.{AllByRecursion}
 use Rattle.std.specs.List.Sorted.{IsPermutation, IsSorted}
 use Rattle.std.specs.Ordering.{nat_cmp}
 use Rattle.xc_forest.specs.Laws.{SumsAreOver}
-use Rattle.xc_joint.specs.Steps.Multiplied.{IsContradicted, IsMadeOf, IsListed, IsSigned, bindings_of, lows_of, highs_of}
+use Rattle.xc_joint.specs.Steps.Multiplied.{IsContradicted, IsMadeOf, IsListed, IsSigned, named_bindings, named_low_facts, named_high_facts}
 use Rattle.xc_joint.specs.Lists.{AreEach}
 use Rattle.xc_joint.specs.Steps.OneForest.{IsSign}
 use Rattle.xc_joint.specs.Steps.UnitSums.{HasUnits}
@@ -37,8 +37,8 @@ signed_units [] (m ∷ ms) h = absurd h
 signed_units (e ∷ es) [] h = absurd h
 signed_units (e ∷ es) (m ∷ ms) h = (unit_of e.1 m.1 h.0.1, signed_units es ms h.1)
 
-pub made_of : (c : Component) (spans : List Span) (by ends : List ℤ) (lows highs : List ℕ) (bs ls hs : List (ℕ × Ratio)) → IsPermutation (lows_of spans ends) lows → IsPermutation (highs_of spans ends) highs → IsSorted nat_cmp lows → IsSorted nat_cmp highs
-    → AreEach IsListed lows ls → AreEach IsListed highs hs → AreEach IsSigned (bindings_of c.equations by) bs → IsMadeOf c spans by ends (record { bindings = bs; lows = ls; highs = hs })
+pub made_of : (c : Component) (spans : List Span) (by ends : List ℤ) (lows highs : List ℕ) (bs ls hs : List (ℕ × Ratio)) → IsPermutation (named_low_facts spans ends) lows → IsPermutation (named_high_facts spans ends) highs → IsSorted nat_cmp lows → IsSorted nat_cmp highs
+    → AreEach IsListed lows ls → AreEach IsListed highs hs → AreEach IsSigned (named_bindings c.equations by) bs → IsMadeOf c spans by ends (record { bindings = bs; lows = ls; highs = hs })
 made_of c spans by ends lows highs bs ls hs lows_are highs_are lows_ascend highs_ascend ll hl bl = record { lows = lows; highs = highs; lows_are = lows_are; highs_are = highs_are; lows_ascend = lows_ascend; highs_ascend = highs_ascend; lows_listed = ll; highs_listed = hl; bindings_listed = bl }
 
 pub has_units : (c : Component) (spans : List Span) (by ends : List ℤ) (r : Multipliers) → IsMadeOf c spans by ends r → HasUnits r

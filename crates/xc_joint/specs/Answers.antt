@@ -21,15 +21,15 @@ use Rattle.xc_verify.specs.declared.types.Judgement.TheVariants.{Accepted}
 -- ---- parts
 
 -- the assignment of these values to these points, in order, and of 0 to all others
-abbrev pub placed : List ℕ → List Ratio → Assignment
-placed [] values p = whole (pos 0)
-placed (q ∷ qs) [] p = whole (pos 0)
-placed (q ∷ qs) (value ∷ values) p = if p == q then fraction_of value else placed qs values p
+abbrev pub assignment_at : List ℕ → List Ratio → Assignment
+assignment_at [] values p = whole (pos 0)
+assignment_at (q ∷ qs) [] p = whole (pos 0)
+assignment_at (q ∷ qs) (value ∷ values) p = if p == q then fraction_of value else assignment_at qs values p
 
 -- a value for each point of a component, by which it is solved
 pub record AreValuesOf (s : Constraints) (c : Component) (values : List Ratio) : Type 0 where
   pub each : length values ≡ length c.points
-  pub solve : SolvesPart s c (placed c.points values)
+  pub solve : SolvesPart s c (assignment_at c.points values)
 
 -- what is found of a component: values where it has no cause, or why it has no answer
 abbrev pub IsPart : Constraints → Component → Part → Type 0

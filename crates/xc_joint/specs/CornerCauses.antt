@@ -7,7 +7,7 @@ use Rattle.xc_corners.specs.Conflicts.{AreOfConflict}
 use Rattle.xc_corners.specs.Corners.{Corner, CornerLists, Factors, corner_of}
 use Rattle.xc_corners.specs.Ending.{IsSmallNumber, AreValuesWith}
 use Rattle.xc_corners.specs.LastOperations.{IsConflictAt, IsFeasibleAt, PassesInSolving}
-use Rattle.xc_corners.specs.WholeNumbers.{whole}
+use Rattle.xc_corners.specs.WholeNumbers.{whole_problem}
 use Rattle.xc_corners.specs.declared.multipliers.Multipliers.{Multipliers as ProblemMultipliers}
 use Rattle.xc_corners.specs.declared.problem.Problem.{Problem}
 use Rattle.xc_frac.specs.declared.wide.Wide.{Wide}
@@ -26,8 +26,8 @@ use Rattle.xc_verify.specs.Infeasible.{coefficient_terms, constant_terms}
 use Rattle.xc_verify.specs.Sums.{IsSumOf}
 
 -- the line with the number that stands at its place among these, in place of the place
-abbrev pub named_by : List ℕ → ℕ × Ratio → ℕ × Ratio
-named_by numbers line = (slice_index_or numbers line.0 0, line.1)
+abbrev pub line_with_number : List ℕ → ℕ × Ratio → ℕ × Ratio
+line_with_number numbers line = (slice_index_or numbers line.0 0, line.1)
 
 -- for each of these points the first fact whose end on this side is the tightest
 abbrev pub AreTightestFacts : Constraints → Side → List ℕ → List ℕ → Type 0
@@ -40,17 +40,17 @@ pub record IsRefutationOf (s : Constraints) (c : Component) (m : ProblemMultipli
   pub high_facts : List ℕ
   pub lows_tightest : AreTightestFacts s Low c.points low_facts
   pub highs_tightest : AreTightestFacts s High c.points high_facts
-  pub bindings : r.bindings ≡ map (named_by c.equations) m.rows
-  pub lows : IsPermutation (map (named_by low_facts) m.lows) r.lows
-  pub highs : IsPermutation (map (named_by high_facts) m.highs) r.highs
+  pub bindings : r.bindings ≡ map (line_with_number c.equations) m.rows
+  pub lows : IsPermutation (map (line_with_number low_facts) m.lows) r.lows
+  pub highs : IsPermutation (map (line_with_number high_facts) m.highs) r.highs
 
 -- these are the values of a feasible corner
 pub record AreValuesAt (problem : Problem) (x : Corner) (values : List Ratio) : Type 0 where
   pub factors : Factors
   pub at : IsFeasibleAt problem x factors
   pub small : Ratio
-  pub is_small : IsSmallNumber (whole problem) x factors small
-  pub are : AreValuesWith (whole problem) x factors small values
+  pub is_small : IsSmallNumber (whole_problem problem) x factors small
+  pub are : AreValuesWith (whole_problem problem) x factors small values
 
 -- this is the refutation of a conflict
 pub record IsRefutationAt (s : Constraints) (c : Component) (problem : Problem) (x : Corner) (r : Multipliers) : Type 0 where
@@ -59,7 +59,7 @@ pub record IsRefutationAt (s : Constraints) (c : Component) (problem : Problem) 
   pub variable : ℕ
   pub at : IsConflictAt problem x factors above variable
   pub multipliers : ProblemMultipliers
-  pub are : AreOfConflict (whole problem) x factors above variable multipliers
+  pub are : AreOfConflict (whole_problem problem) x factors above variable multipliers
   pub is : IsRefutationOf s c multipliers r
 
 -- w is the first operation that passes where the checker sums an equation over the values of a feasible corner, or at a conflict a
@@ -74,5 +74,5 @@ pub data PassesInChecking (s : Constraints) (c : Component) (problem : Problem) 
 pub record CornerPasses (s : Constraints) (c : Component) (lists : CornerLists) (w : Wide) : Type 0 where
   pub problem : Problem
   pub of : IsProblemOf s c problem
-  pub reached : IsReached (whole problem) (corner_of lists)
+  pub reached : IsReached (whole_problem problem) (corner_of lists)
   pub passes : PassesInSolving problem (corner_of lists) w ⊎ PassesInChecking s c problem (corner_of lists) w

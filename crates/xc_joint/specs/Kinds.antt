@@ -12,6 +12,7 @@ pub data Kind : Type 0 where
   Contradicted : Kind
   Caused : Kind
 
+-- the kind of an answer
 abbrev pub kind_of : Joint → Kind
 kind_of (Settled (Feasible values)) = Solved
 kind_of (Settled (Infeasible r)) = Contradicted

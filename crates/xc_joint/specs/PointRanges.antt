@@ -10,7 +10,7 @@ use Rattle.xc_lists.specs.Members.{IsIn}
 use Rattle.xc_system.specs.Systems.{Constraints, facts_of, range_at}
 use Rattle.xc_system.specs.declared.types.Component.{Component}
 
--- x is the low end of one of these facts; or the high end of one
+-- x is the low end of one of these facts
 pub record IsLowOf (s : Constraints) (facts : List ℕ) (x : Parts) : Type 0 where
   pub fact : ℕ
   pub interval : Interval Ratio
@@ -18,6 +18,7 @@ pub record IsLowOf (s : Constraints) (facts : List ℕ) (x : Parts) : Type 0 whe
   pub known : range_at s.bounds fact ≡ Some interval
   pub is : x ≡ low_pair interval.low
 
+-- x is the high end of one of these facts
 pub record IsHighOf (s : Constraints) (facts : List ℕ) (x : Parts) : Type 0 where
   pub fact : ℕ
   pub interval : Interval Ratio

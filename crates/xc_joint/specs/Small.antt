@@ -10,10 +10,11 @@ use Rattle.xc_model.specs.Fraction.{Fraction, SameNumber, IsBelow, whole, sum_of
 use Rattle.xc_model.specs.Parts.{Parts}
 use Rattle.xc_model.specs.Ratio.{Ratio, fraction_of}
 
--- an open low end is just above its number, an open high end just below
+-- what a low end stands for: where it is open, just above its number
 abbrev pub low_pair : End Ratio → Parts
 low_pair end = record { real = fraction_of (value_of end); tiny = if is_open end then whole (pos 1) else whole (pos 0) }
 
+-- what a high end stands for: where it is open, just below its number
 abbrev pub high_pair : End Ratio → Parts
 high_pair end = record { real = fraction_of (value_of end); tiny = if is_open end then whole (negsuc 0) else whole (pos 0) }
 

@@ -50,6 +50,7 @@ pub record HasParts (w : Width) (value : Delta Ratio) : Type 0 where
   pub real : IsWithin w.d w.r value.real
   pub tiny : IsWithin 1 w.n value.tiny
 
+-- so of each of these values
 abbrev pub HaveParts : Width → List (Delta Ratio) → Type 0
 HaveParts w values = AllByRecursion (HasParts w) values
 

@@ -16,7 +16,7 @@ use crate::contradicting::problem_refutation;
 use crate::laws::solutions_are_values;
 use crate::one_forest::spans;
 use crate::problems::problem;
-use crate::settling::place;
+use crate::settling::put_values;
 use std::alloc::Global;
 use xc_corners::laws::{one_run, problems_are_whole, solved_forms};
 use xc_corners::{Corner, Problem};
@@ -29,7 +29,7 @@ use xc_system::laws::{
 };
 use xc_system::{Certificate, Component, Refutation, Scratch, System};
 use xc_verify::laws::one_sum;
-use xc_verify::{Judgement, equation, verify};
+use xc_verify::{Judgement, equation_sum, verify};
 
 /// What becomes of a component that is solved along the corners of its problem.
 #[derive(Debug, Drop)]
@@ -44,7 +44,7 @@ pub enum Cornered {
 }
 
 // The first operation that passes where the equations of a component are summed over these values of all points.
-fn first_passing(system: &System, component: &Component, values: &[Frac]) -> Option<Wide>
+fn first_passing_operation(system: &System, component: &Component, values: &[Frac]) -> Option<Wide>
     requires component { IsComponent system.now component.now }
     requires values { system.now.points ≤ length values.now }
     ensures none { IfNone result (SumsPassNowhere system.now component.now values.now) }
@@ -52,7 +52,7 @@ fn first_passing(system: &System, component: &Component, values: &[Frac]) -> Opt
 {
     components_are_closed();
     for number in component.equations.as_slice() {
-        if let Err(wide) = equation(system, *number, values) {
+        if let Err(wide) = equation_sum(system, *number, values) {
             return Some(wide);
         }
     }
@@ -61,7 +61,7 @@ fn first_passing(system: &System, component: &Component, values: &[Frac]) -> Opt
 
 // The first operation that passes where the equations of a component are summed over these values of its points, which
 // are written among those of all points.
-fn passing_with(
+fn passing_operation_with(
     system: &System,
     component: &Component,
     values: &[Frac],
@@ -76,8 +76,8 @@ fn passing_with(
     ensures length { length all.new ≡ length all.old }
 {
     components_are_closed();
-    place(all, component.points.as_slice(), values);
-    first_passing(system, component, all)
+    put_values(all, component.points.as_slice(), values);
+    first_passing_operation(system, component, all)
 }
 
 // The last corner of a problem, where no operation passes on the way to its answer.
@@ -120,16 +120,16 @@ fn check_sums(
     contradictions_exclude();
     let _points = system.points();
     let _of = component;
-    let certificate = infeasible(refutation);
+    let certificate = certificate_of(refutation);
     let judgement = verify(system, &certificate, scratch);
-    match passing(judgement) {
+    match passing_operation(judgement) {
         Some(wide) => Checked::Passes(wide),
         None => Checked::Summed(refutation_in(certificate)),
     }
 }
 
 // The certificate that a refutation makes.
-fn infeasible(refutation: Refutation) -> Certificate
+fn certificate_of(refutation: Refutation) -> Certificate
     ensures { result ≡ Certificate.Infeasible refutation }
 {
     Certificate::Infeasible(refutation)
@@ -147,7 +147,7 @@ fn refutation_in(certificate: Certificate) -> Refutation
 }
 
 // The operation that a judgement names.
-fn passing(judgement: Judgement) -> Option<Wide>
+fn passing_operation(judgement: Judgement) -> Option<Wide>
     ensures some { IfSome result (λ wide. NamesPassing judgement wide) }
     ensures none { IfNone result (¬ IsTooWide judgement) }
 {
@@ -160,7 +160,7 @@ fn passing(judgement: Judgement) -> Option<Wide>
 }
 
 // What becomes of a component by values that solve its problem.
-fn with_values(
+fn settle_by_values(
     alloc: Global,
     system: &System,
     component: &Component,
@@ -187,7 +187,7 @@ fn with_values(
     components_are_closed();
     equations_name_points();
     let _points = system.points();
-    let passing = passing_with(
+    let passing = passing_operation_with(
         system,
         component,
         values.as_slice(),
@@ -203,7 +203,7 @@ fn with_values(
 }
 
 // What becomes of a component by the refutation of a conflict.
-fn with_refutation(
+fn settle_by_refutation(
     alloc: Global,
     system: &System,
     component: &Component,
@@ -261,7 +261,7 @@ pub fn settle_by_corners(
     let problem = problem(alloc, system, component, spans.as_slice())?;
     match solve(alloc, &problem)? {
         Outcome::Feasible(values) => {
-            with_values(alloc, system, component, &problem, values, scratch)
+            settle_by_values(alloc, system, component, &problem, values, scratch)
         }
         Outcome::Infeasible(multipliers) => {
             let refutation = problem_refutation(
@@ -272,7 +272,7 @@ pub fn settle_by_corners(
                 &problem,
                 &multipliers,
             )?;
-            with_refutation(alloc, system, component, &problem, refutation, scratch)
+            settle_by_refutation(alloc, system, component, &problem, refutation, scratch)
         }
         Outcome::TooWide(corner, wide) => Ok(Cornered::TooWide(corner, wide)),
     }

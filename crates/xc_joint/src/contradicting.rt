@@ -2,7 +2,7 @@
 ghost use Rattle.std.specs.Prelude.{◌≡◌, ◌<◌, IfOk, All, length, map};
 ghost use Rattle.std.specs.List.Sorted.{IsNonDecreasingBy, IsPermutation};
 ghost use Rattle.xc_corners.specs.Answers.{Contradicts};
-ghost use Rattle.xc_joint.specs.CornerCauses.{named_by};
+ghost use Rattle.xc_joint.specs.CornerCauses.{line_with_number};
 ghost use Rattle.xc_joint.specs.Steps.ProblemRefutations.{IsRefutationBy, high_facts, low_facts};
 ghost use Rattle.xc_joint.specs.Steps.SpanProblems.{IsProblemBy};
 ghost use Rattle.xc_system.specs.Components.{IsComponent};
@@ -33,20 +33,20 @@ pub(crate) fn problem_refutation(
 {
     let _system = system;
     let _problem = problem;
-    let low_facts = lows_of(alloc, spans)?;
-    let high_facts = highs_of(alloc, spans)?;
-    let bindings = named(
+    let low_facts = low_facts(alloc, spans)?;
+    let high_facts = high_facts(alloc, spans)?;
+    let bindings = lines_with_numbers(
         alloc,
         component.equations.as_slice(),
         multipliers.rows.as_slice(),
     )?;
-    let lows = named(alloc, low_facts.as_slice(), multipliers.lows.as_slice())?;
-    let highs = named(alloc, high_facts.as_slice(), multipliers.highs.as_slice())?;
-    Ok(Refutation::of(bindings, sorted(lows), sorted(highs)))
+    let lows = lines_with_numbers(alloc, low_facts.as_slice(), multipliers.lows.as_slice())?;
+    let highs = lines_with_numbers(alloc, high_facts.as_slice(), multipliers.highs.as_slice())?;
+    Ok(Refutation::of(bindings, lines_in_order(lows), lines_in_order(highs)))
 }
 
 // The facts with the tightest low ends.
-fn lows_of(alloc: Global, spans: &[Span]) -> Result<Vec<u32>, Memory>
+fn low_facts(alloc: Global, spans: &[Span]) -> Result<Vec<u32>, Memory>
     ensures { IfOk result (λ facts. facts.items ≡ low_facts spans.now) }
 {
     let mut facts = Vec::new(alloc);
@@ -57,7 +57,7 @@ fn lows_of(alloc: Global, spans: &[Span]) -> Result<Vec<u32>, Memory>
 }
 
 // The facts with the tightest high ends.
-fn highs_of(alloc: Global, spans: &[Span]) -> Result<Vec<u32>, Memory>
+fn high_facts(alloc: Global, spans: &[Span]) -> Result<Vec<u32>, Memory>
     ensures { IfOk result (λ facts. facts.items ≡ high_facts spans.now) }
 {
     let mut facts = Vec::new(alloc);
@@ -68,9 +68,13 @@ fn highs_of(alloc: Global, spans: &[Span]) -> Result<Vec<u32>, Memory>
 }
 
 // The lines with the numbers that stand at their places, in place of the places.
-fn named(alloc: Global, numbers: &[u32], lines: &[(u32, Frac)]) -> Result<Vec<(u32, Frac)>, Memory>
+fn lines_with_numbers(
+    alloc: Global,
+    numbers: &[u32],
+    lines: &[(u32, Frac)],
+) -> Result<Vec<(u32, Frac)>, Memory>
     requires { All (λ line. line.0 < length numbers.now) lines.now }
-    ensures { IfOk result (λ made. made.items ≡ map (named_by numbers.now) lines.now) }
+    ensures { IfOk result (λ made. made.items ≡ map (line_with_number numbers.now) lines.now) }
 {
     let mut made = Vec::new(alloc);
     for line in lines {
@@ -80,16 +84,16 @@ fn named(alloc: Global, numbers: &[u32], lines: &[(u32, Frac)]) -> Result<Vec<(u
 }
 
 // The lines in the order of their numbers.
-fn sorted(mut lines: Vec<(u32, Frac)>) -> Vec<(u32, Frac)>
+fn lines_in_order(mut lines: Vec<(u32, Frac)>) -> Vec<(u32, Frac)>
     ensures lists { IsPermutation lines.items result.items }
     ensures ascend { IsNonDecreasingBy (λ line. line.0) result.items }
 {
-    sort(lines.as_mut_slice());
+    sort_lines(lines.as_mut_slice());
     lines
 }
 
 // Sorts the lines by their numbers.
-fn sort(lines: &mut [(u32, Frac)])
+fn sort_lines(lines: &mut [(u32, Frac)])
     ensures lists { IsPermutation lines.old lines.new }
     ensures ascend { IsNonDecreasingBy (λ line. line.0) lines.new }
 {

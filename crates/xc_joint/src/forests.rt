@@ -6,7 +6,7 @@ ghost use Rattle.xc_system.specs.Components.{IsComponent};
 ghost use Rattle.xc_system.specs.Forests.{IsNarrowForest};
 
 use crate::laws::{numbers_are_values, numbers_have_sums, unit_refutations_sum};
-use crate::one_forest::{ranges, solved, spans};
+use crate::one_forest::{ranges, solve_forest, spans};
 use crate::refuting::refutation;
 use crate::solving::Solution;
 use std::alloc::Global;
@@ -42,7 +42,7 @@ pub fn settle_forest(
     let _points = system.points();
     let spans = spans(alloc, system, component.points.as_slice())?;
     let ranges = ranges(alloc, system, spans.as_slice())?;
-    match solved(alloc, system, component, ranges.as_slice())? {
+    match solve_forest(alloc, system, component, ranges.as_slice())? {
         Solution::Numbers(values) => Ok(Settlement::Values(values)),
         Solution::Contradiction { rows, ends } => {
             let refutation = refutation(

@@ -30,7 +30,7 @@ pub(crate) struct Span {
 
 /// Solves a component that is a narrow forest and whose points have these ranges, or contradicts it: numbers and
 /// multipliers are those of its points and equations by their places.
-pub(crate) fn solved(
+pub(crate) fn solve_forest(
     alloc: Global,
     system: &System,
     component: &Component,
@@ -162,7 +162,7 @@ fn signed_places(
 {
     let mut places = Vec::new(alloc);
     for entry in entries {
-        places.push((place_of(points, entry.point), is_minus(entry.weight)))?;
+        places.push((place_of(points, entry.point), has_minus_sign(entry.weight)))?;
     }
     Ok(Items::of(places))
 }
@@ -182,7 +182,7 @@ pub(crate) fn place_of(points: &[u32], point: u32) -> u32
 }
 
 // Whether a weight, 1 or -1, is -1.
-fn is_minus(weight: Frac) -> bool
+fn has_minus_sign(weight: Frac) -> bool
     requires { IsUnit weight }
     ensures { IsSign result weight }
 {

@@ -2,7 +2,7 @@
 ghost use Rattle.std.specs.Prelude.{◌≡◌, ◌<◌, ◌^◌, IfOk, length, pos, slice_index_or};
 ghost use Rattle.std.specs.List.Sorted.{IsPermutation, IsSorted};
 ghost use Rattle.std.specs.Ordering.{nat_cmp};
-ghost use Rattle.xc_joint.specs.Steps.Multiplied.{IsContradicted, IsListed, IsSigned, bindings_of, highs_of, is_minus, is_nonzero, is_plus, lows_of};
+ghost use Rattle.xc_joint.specs.Steps.Multiplied.{IsContradicted, IsListed, IsSigned, named_bindings, named_high_facts, is_minus, is_nonzero, is_plus, named_low_facts};
 ghost use Rattle.xc_joint.specs.Steps.UnitSums.{HasUnits};
 ghost use Rattle.xc_system.specs.Refutations.{IsContradictionOf};
 ghost use Rattle.xc_joint.specs.Lists.{AreEach};
@@ -31,30 +31,30 @@ pub(crate) fn refutation(
 {
     sums_are_over();
     let _system = system;
-    let low_facts = lows(alloc, spans, ends)?;
-    let high_facts = highs(alloc, spans, ends)?;
-    let equations = bindings(alloc, component.equations.as_slice(), by)?;
-    let lows = listed(alloc, low_facts.as_slice())?;
-    let highs = listed(alloc, high_facts.as_slice())?;
-    let bindings = listed_bindings(alloc, equations.as_slice())?;
+    let low_facts = sorted_low_facts(alloc, spans, ends)?;
+    let high_facts = sorted_high_facts(alloc, spans, ends)?;
+    let equations = named_bindings(alloc, component.equations.as_slice(), by)?;
+    let lows = fact_lines(alloc, low_facts.as_slice())?;
+    let highs = fact_lines(alloc, high_facts.as_slice())?;
+    let bindings = binding_lines(alloc, equations.as_slice())?;
     Ok(Refutation::of(bindings, lows, highs))
 }
 
 // The facts whose low ends are named, ascending.
-fn lows(alloc: Global, spans: &[Span], ends: &[i8]) -> Result<Vec<u32>, Memory>
+fn sorted_low_facts(alloc: Global, spans: &[Span], ends: &[i8]) -> Result<Vec<u32>, Memory>
     requires { length ends.now ≡ length spans.now }
-    ensures lists { IfOk result (λ facts. IsPermutation (lows_of spans.now ends.now) facts.items) }
+    ensures lists { IfOk result (λ facts. IsPermutation (named_low_facts spans.now ends.now) facts.items) }
     ensures ascend { IfOk result (λ facts. IsSorted nat_cmp facts.items) }
 {
-    let mut facts = low_facts(alloc, spans, ends)?;
+    let mut facts = named_low_facts(alloc, spans, ends)?;
     facts.as_mut_slice().sort_unstable();
     Ok(facts)
 }
 
 // These facts in the order of the points.
-fn low_facts(alloc: Global, spans: &[Span], ends: &[i8]) -> Result<Vec<u32>, Memory>
+fn named_low_facts(alloc: Global, spans: &[Span], ends: &[i8]) -> Result<Vec<u32>, Memory>
     requires { length ends.now ≡ length spans.now }
-    ensures { IfOk result (λ facts. facts.items ≡ lows_of spans.now ends.now) }
+    ensures { IfOk result (λ facts. facts.items ≡ named_low_facts spans.now ends.now) }
 {
     let mut facts = Vec::new(alloc);
     for (number, span) in spans.iter().enumerate() {
@@ -66,20 +66,20 @@ fn low_facts(alloc: Global, spans: &[Span], ends: &[i8]) -> Result<Vec<u32>, Mem
 }
 
 // The facts whose high ends are named, ascending.
-fn highs(alloc: Global, spans: &[Span], ends: &[i8]) -> Result<Vec<u32>, Memory>
+fn sorted_high_facts(alloc: Global, spans: &[Span], ends: &[i8]) -> Result<Vec<u32>, Memory>
     requires { length ends.now ≡ length spans.now }
-    ensures lists { IfOk result (λ facts. IsPermutation (highs_of spans.now ends.now) facts.items) }
+    ensures lists { IfOk result (λ facts. IsPermutation (named_high_facts spans.now ends.now) facts.items) }
     ensures ascend { IfOk result (λ facts. IsSorted nat_cmp facts.items) }
 {
-    let mut facts = high_facts(alloc, spans, ends)?;
+    let mut facts = named_high_facts(alloc, spans, ends)?;
     facts.as_mut_slice().sort_unstable();
     Ok(facts)
 }
 
 // These facts in the order of the points.
-fn high_facts(alloc: Global, spans: &[Span], ends: &[i8]) -> Result<Vec<u32>, Memory>
+fn named_high_facts(alloc: Global, spans: &[Span], ends: &[i8]) -> Result<Vec<u32>, Memory>
     requires { length ends.now ≡ length spans.now }
-    ensures { IfOk result (λ facts. facts.items ≡ highs_of spans.now ends.now) }
+    ensures { IfOk result (λ facts. facts.items ≡ named_high_facts spans.now ends.now) }
 {
     let mut facts = Vec::new(alloc);
     for (number, span) in spans.iter().enumerate() {
@@ -115,7 +115,7 @@ fn counts(multipliers: &[i8], number: usize) -> bool
 }
 
 // The facts, each with 1.
-fn listed(alloc: Global, facts: &[u32]) -> Result<Vec<(u32, Frac)>, Memory>
+fn fact_lines(alloc: Global, facts: &[u32]) -> Result<Vec<(u32, Frac)>, Memory>
     ensures { IfOk result (λ listed. AreEach IsListed facts.now listed.items) }
 {
     let mut listed = Vec::new(alloc);
@@ -126,9 +126,9 @@ fn listed(alloc: Global, facts: &[u32]) -> Result<Vec<(u32, Frac)>, Memory>
 }
 
 // The equations that count, each with true for a minus sign.
-fn bindings(alloc: Global, equations: &[u32], by: &[i8]) -> Result<Vec<(u32, bool)>, Memory>
+fn named_bindings(alloc: Global, equations: &[u32], by: &[i8]) -> Result<Vec<(u32, bool)>, Memory>
     requires { length by.now ≡ length equations.now }
-    ensures { IfOk result (λ bindings. bindings.items ≡ bindings_of equations.now by.now) }
+    ensures { IfOk result (λ bindings. bindings.items ≡ named_bindings equations.now by.now) }
 {
     let mut bindings = Vec::new(alloc);
     for (number, equation) in equations.iter().enumerate() {
@@ -140,7 +140,7 @@ fn bindings(alloc: Global, equations: &[u32], by: &[i8]) -> Result<Vec<(u32, boo
 }
 
 // The same with 1 and -1.
-fn listed_bindings(alloc: Global, bindings: &[(u32, bool)]) -> Result<Vec<(u32, Frac)>, Memory>
+fn binding_lines(alloc: Global, bindings: &[(u32, bool)]) -> Result<Vec<(u32, Frac)>, Memory>
     ensures { IfOk result (λ listed. AreEach IsSigned bindings.now listed.items) }
 {
     let mut listed = Vec::new(alloc);

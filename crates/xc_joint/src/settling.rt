@@ -144,7 +144,7 @@ fn gather(
     components_decide();
     links_are_equivalences();
     proofs_are_accepted();
-    let mut all = zeros(alloc, system.points())?;
+    let mut all = zero_values(alloc, system.points())?;
     let mut parts = Vec::new(alloc);
     let mut caused = false;
     for component in components {
@@ -153,7 +153,7 @@ fn gather(
                 return Ok(Joint::Settled(Certificate::Infeasible(refutation)));
             }
             Found::Values(values) => {
-                place(
+                put_values(
                     all.as_mut_slice(),
                     component.points.as_slice(),
                     values.as_slice(),
@@ -173,7 +173,7 @@ fn gather(
 }
 
 // As many numbers 0.
-fn zeros(alloc: Global, points: u32) -> Result<Vec<Frac>, Memory>
+fn zero_values(alloc: Global, points: u32) -> Result<Vec<Frac>, Memory>
     ensures { IfOk result (λ zeros. length zeros.items ≡ points) }
 {
     let mut zeros = Vec::new(alloc);
@@ -184,7 +184,7 @@ fn zeros(alloc: Global, points: u32) -> Result<Vec<Frac>, Memory>
 }
 
 /// Writes the values of these points among those of all points.
-pub(crate) fn place(all: &mut [Frac], points: &[u32], values: &[Frac])
+pub(crate) fn put_values(all: &mut [Frac], points: &[u32], values: &[Frac])
     requires inside { All (λ p. p < length all.old) points.now }
     requires each { length values.now ≡ length points.now }
     requires ascend { IsStrictlySortedBy nat_cmp points.now }

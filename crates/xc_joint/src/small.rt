@@ -24,7 +24,7 @@ pub fn small_number(ranges: &[Interval<Frac>], values: &[Delta<Frac>]) -> Result
     ensures room { (w : Width) → HasRoom w → 0 < w.d → AreWithin w ranges.now values.now → IsOkAnd result (λ s. IsOverFactor w (w.d * 2) s) }
 {
     let bound = bound(ranges, values)?;
-    below(bound)
+    positive_below(bound)
 }
 
 /// Why values are not made numbers.
@@ -93,7 +93,7 @@ fn numbers_at(alloc: Global, values: &[Delta<Frac>], small: Frac) -> Result<Vec<
 }
 
 // A positive number below a bound: half of it, or 1.
-fn below(bound: Option<Frac>) -> Result<Frac, Wide>
+fn positive_below(bound: Option<Frac>) -> Result<Frac, Wide>
     requires { IsPositiveBound bound }
     ensures positive { IfOk result (λ s. IsPositive (fraction_of s)) }
     ensures under { IfOk result (λ s. IsUnder bound (fraction_of s)) }
@@ -130,7 +130,7 @@ fn bound(ranges: &[Interval<Frac>], values: &[Delta<Frac>]) -> Result<Option<Fra
     let mut bound = None;
     for (number, value) in values.iter().enumerate() {
         let own = bound_at(&ranges[number], value)?;
-        bound = least(bound, own);
+        bound = lesser_bound(bound, own);
     }
     Ok(bound)
 }
@@ -152,7 +152,7 @@ fn bound_at(range: &Interval<Frac>, value: &Delta<Frac>) -> Result<Option<Frac>,
         value.tiny,
         high_tiny(range.high),
     )?;
-    Ok(least(low, high))
+    Ok(lesser_bound(low, high))
 }
 
 // Where the first number is greater than the second and the third than the fourth: the first gap over the second.
@@ -182,7 +182,7 @@ fn exceeds(one: Frac, other: Frac) -> bool
 }
 
 // The lesser of two bounds.
-fn least(one: Option<Frac>, other: Option<Frac>) -> Option<Frac>
+fn lesser_bound(one: Option<Frac>, other: Option<Frac>) -> Option<Frac>
     ensures positive { IsPositiveBound one → IsPositiveBound other → IsPositiveBound result }
     ensures under { (s : Fraction) → IsUnder result s → IsUnder one s × IsUnder other s }
     ensures over { (w : Width) → IfSome one (λ f. IsOverFactor w w.d f) → IfSome other (λ f. IsOverFactor w w.d f) → IfSome result (λ f. IsOverFactor w w.d f) }

@@ -17,7 +17,7 @@ pub fn least_wide(system: &System, component: &Component) -> Option<u32>
     components_are_closed();
     let mut least = None;
     for point in component.points.as_slice() {
-        least = lesser(least, wide_at(system, *point));
+        least = lesser_number(least, wide_at(system, *point));
     }
     least
 }
@@ -44,7 +44,7 @@ fn is_wide(system: &System, fact: u32) -> bool
 }
 
 // The lesser of two numbers.
-fn lesser(one: Option<u32>, other: Option<u32>) -> Option<u32>
+fn lesser_number(one: Option<u32>, other: Option<u32>) -> Option<u32>
     ensures { result ≡ least one other }
 {
     let Some(first) = one else {

@@ -10,22 +10,22 @@ use Rattle.xc_interval.specs.declared.mode.Mode.TheVariants.{Rounding, Truncatio
 use Rattle.xc_interval.specs.declared.range.Range.{Range}
 use Rattle.xc_interval.specs.declared.range.Range.TheVariants as range
 use Rattle.xc_lines.specs.Findings.{findings}
-use Rattle.xc_lines.specs.Lines.{printed, read_fault_line, refusal_line, placed_refusal_line}
+use Rattle.xc_lines.specs.Lines.{printed_text, read_fault_line, refusal_line, placed_refusal_line}
 use Rattle.xc_points.specs.declared.types.Point.{Point}
 use Rattle.xc_report.specs.declared.reports.Fact.{Fact}
 use Rattle.xc_report.specs.declared.reports.Reading.TheVariants as read
 
 -- a space, `%`, a line feed and the delete character
-escaped : printed (codes "a b%" ++ 10 ∷ 127 ∷ codes "~") ≡ codes "a%20b%25%0A%7F~"
+escaped : printed_text (codes "a b%" ++ 10 ∷ 127 ∷ codes "~") ≡ codes "a%20b%25%0A%7F~"
 unfolding chars lib.Utf8.encode
 escaped = refl
 
 -- U+00E9 and U+1F600 are of several bytes, which stay as they are
-not_escaped : printed (195 ∷ 169 ∷ 240 ∷ 159 ∷ 152 ∷ 128 ∷ []) ≡ 195 ∷ 169 ∷ 240 ∷ 159 ∷ 152 ∷ 128 ∷ []
+not_escaped : printed_text (195 ∷ 169 ∷ 240 ∷ 159 ∷ 152 ∷ 128 ∷ []) ≡ 195 ∷ 169 ∷ 240 ∷ 159 ∷ 152 ∷ 128 ∷ []
 unfolding chars lib.Utf8.encode
 not_escaped = refl
 
-empty_text : printed (codes "") ≡ codes "%"
+empty_text : printed_text (codes "") ≡ codes "%"
 empty_text = refl
 
 missing_file : read_fault_line (codes "my file.json") ≡ codes "read-fault my%20file.json\n"

@@ -19,7 +19,7 @@ use Rattle.xc_interval.specs.declared.mode.Mode.TheVariants.{Rounding, Truncatio
 use Rattle.xc_lines.specs.Findings.{counts_line, binding_line, binding_lines, empty_point_line, empty_point_lines, findings, first_id, line_of, mode_code, verdict_code, verdict_word}
 use Rattle.xc_lines.specs.JointPart.{BeginsJoint}
 use Rattle.xc_lines.specs.Laws.{FindingsArePassed, FindingsArePlain, IsOfWord}
-use Rattle.xc_lines.specs.Lines.{printed}
+use Rattle.xc_lines.specs.Lines.{printed_text}
 use Rattle.xc_lines.proofs.Words.{of_words}
 use Rattle.xc_points.specs.declared.types.Point.{Point}
 use Rattle.xc_report.specs.declared.reports.Fact.{Fact}
@@ -32,8 +32,8 @@ low = lit< tt
 pub number_lacks : (n : ℕ) → n < 2 ^ 64 → Lacks 10 (decimal n)
 number_lacks n small = let more : 2 ^ 64 < 10 ^ 64 = lit< tt in decimal_lacks 10 low n (omega (arith, small, more))
 
-pub printed_lacks : (text : List ℕ) → Lacks 10 (printed text)
-printed_lacks text = recursion_from_All (λ b. b ≢ 10) (printed text) (All-weaker IsOfWord (λ b. b ≢ 10) (λ b h e. omega (arith, h.0, e)) (printed text) (of_words text))
+pub printed_lacks : (text : List ℕ) → Lacks 10 (printed_text text)
+printed_lacks text = recursion_from_All (λ b. b ≢ 10) (printed_text text) (All-weaker IsOfWord (λ b. b ≢ 10) (λ b h e. omega (arith, h.0, e)) (printed_text text) (of_words text))
 
 word_lacks : (v : Verdict) → Lacks 10 (verdict_word v)
 word_lacks Consistent = lacks_by 10 (codes " consistent ") refl
@@ -115,12 +115,12 @@ module _ (P : List ℕ → Type 0) where
         let space = lacks_by 10 (codes " ") refl in
         let first : List ℕ = codes "binding " ++ decimal n in
         let second : List ℕ = first ++ verdict_word v in
-        let third : List ℕ = second ++ printed role in
+        let third : List ℕ = second ++ printed_text role in
         let fourth : List ℕ = third ++ codes " " in
-        let fifth : List ℕ = fourth ++ printed id in
+        let fifth : List ℕ = fourth ++ printed_text id in
         let line : List ℕ = fifth ++ verdict_code mode v in
         one_line line
-        (lacks_append 10 fifth (verdict_code mode v) (lacks_append 10 fourth (printed id) (lacks_append 10 third (codes " ") (lacks_append 10 second (printed role) (lacks_append 10 first (verdict_word v) (lacks_append 10 (codes "binding ") (decimal n) word (number_lacks n small)) (word_lacks v)) (printed_lacks role)) space) (printed_lacks id)) (code_lacks mode v))
+        (lacks_append 10 fifth (verdict_code mode v) (lacks_append 10 fourth (printed_text id) (lacks_append 10 third (codes " ") (lacks_append 10 second (printed_text role) (lacks_append 10 first (verdict_word v) (lacks_append 10 (codes "binding ") (decimal n) word (number_lacks n small)) (word_lacks v)) (printed_lacks role)) space) (printed_lacks id)) (code_lacks mode v))
         (at_b line refl)
 
     point_such : (n : ℕ) (id : List ℕ) → n < 2 ^ 64 → AreSuch P (empty_point_line n id)
@@ -130,10 +130,10 @@ module _ (P : List ℕ → Type 0) where
         let code = lacks_by 10 (codes " xc:emptyDataPoint") refl in
         let first : List ℕ = codes "point " ++ decimal n in
         let second : List ℕ = first ++ codes " empty " in
-        let third : List ℕ = second ++ printed id in
+        let third : List ℕ = second ++ printed_text id in
         let line : List ℕ = third ++ codes " xc:emptyDataPoint" in
         let is : third ++ codes " xc:emptyDataPoint\n" ≡ line ++ codes "\n" = sym (append_assoc third (codes " xc:emptyDataPoint") (codes "\n")) in
-        subst (λ bytes. AreSuch P bytes) (sym is) (one_line line (lacks_append 10 third (codes " xc:emptyDataPoint") (lacks_append 10 second (printed id) (lacks_append 10 first (codes " empty ") (lacks_append 10 (codes "point ") (decimal n) word (number_lacks n small)) empty) (printed_lacks id)) code) (at_p line refl))
+        subst (λ bytes. AreSuch P bytes) (sym is) (one_line line (lacks_append 10 third (codes " xc:emptyDataPoint") (lacks_append 10 second (printed_text id) (lacks_append 10 first (codes " empty ") (lacks_append 10 (codes "point ") (decimal n) word (number_lacks n small)) empty) (printed_lacks id)) code) (at_p line refl))
 
     findings_such : (mode : Mode) (facts : List Fact) (networks : List Network) (points : List Point) (bindings : List Binding) (verdicts : List Verdict)
         → length bindings < 2 ^ 64 → length points < 2 ^ 64 → AreSuch P (findings mode facts networks points bindings verdicts)

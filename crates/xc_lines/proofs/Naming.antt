@@ -9,7 +9,7 @@ use Rattle.std.proofs.Math.Seq.{drop-cons}
 use Rattle.std.proofs.lemmas.Bool.{eqb-true, eqb-false, ne_eqb, ltb-true}
 use Rattle.xc_cert.specs.Certificates.{certificate_text}
 use Rattle.xc_lines.specs.Settled.{is_listed, is_named, because_line, because_lines, settled_lines}
-use Rattle.xc_lines.specs.Steps.Named.{taken, IsLeft}
+use Rattle.xc_lines.specs.Steps.Named.{take_number, IsLeft}
 use Rattle.xc_model.specs.Ratio.{Ratio}
 use Rattle.xc_report.specs.declared.reports.Fact.{Fact}
 use Rattle.xc_system.specs.Kept.{Multipliers, IsAscending}
@@ -74,7 +74,7 @@ turns_by listed m ms n false e left =
       rest = record { ascends = left.ascends; from = all; same = λ k h. left.same k (omega (arith, h)) };
     }
 
-pub turns : (listed left : List (ℕ × Ratio)) (n : ℕ) → IsLeft listed left n → Turns listed n (taken left n)
+pub turns : (listed left : List (ℕ × Ratio)) (n : ℕ) → IsLeft listed left n → Turns listed n (take_number left n)
 turns listed [] n l = record { named = l.same n (omega arith); rest = record { ascends = l.ascends; from = tt; same = λ k h. l.same k (omega (arith, h)) } }
 turns listed (m ∷ ms) n l = turns_by listed m ms n (eqb m.0 n) refl l
 

@@ -6,7 +6,7 @@ use Rattle.xc_lists.proofs.Lacking.{lacks_append, lacks_by}
 use Rattle.xc_cert.specs.Certificates.{IsCertificate, IsPassedText, IsTextOf, certificate_text, opening}
 use Rattle.xc_cert.specs.Laws.{PassedTextsJoin, WrittenIsText}
 use Rattle.xc_lines.specs.Laws.{SettledIsText}
-use Rattle.xc_lines.specs.Lines.{printed}
+use Rattle.xc_lines.specs.Lines.{printed_text}
 use Rattle.xc_lines.specs.Settled.{is_named, because_line, because_lines}
 use Rattle.xc_lines.proofs.FindingLines.{AreSuch, apart, number_lacks, numbered, one_line, printed_lacks}
 use Rattle.xc_system.specs.declared.types.Certificate.{Certificate}
@@ -25,8 +25,8 @@ because_pass n id small =
     let space = lacks_by 10 (codes " ") refl in
     let first : List ℕ = codes "because fact " ++ decimal n in
     let second : List ℕ = first ++ codes " " in
-    let line : List ℕ = second ++ printed id in
-    one_line (λ line. line ≢ opening) line (lacks_append 10 second (printed id) (lacks_append 10 first (codes " ") (lacks_append 10 (codes "because fact ") (decimal n) word (number_lacks n small)) space) (printed_lacks id)) (apart line 98 refl (λ e. omega arith))
+    let line : List ℕ = second ++ printed_text id in
+    one_line (λ line. line ≢ opening) line (lacks_append 10 second (printed_text id) (lacks_append 10 first (codes " ") (lacks_append 10 (codes "because fact ") (decimal n) word (number_lacks n small)) space) (printed_lacks id)) (apart line 98 refl (λ e. omega arith))
 
 feasible_pass : IsPassedText (codes "joint feasible\n")
 feasible_pass = passed (codes "joint feasible\n") (one_line (λ line. line ≢ opening) (codes "joint feasible") (lacks_by 10 (codes "joint feasible") refl) (apart (codes "joint feasible") 106 refl (λ e. omega arith)))

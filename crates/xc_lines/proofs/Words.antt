@@ -6,7 +6,7 @@ use Rattle.std.proofs.lemmas.Str.{chars-encodes, encode_same, char_from_byte, le
 use Rattle.std.specs.List.{flat_map}
 use Rattle.std.specs.Str.{IsUtf8, chars}
 use Rattle.xc_lines.specs.Laws.{IsOfWord, PrintsOneWord, PrintsApart}
-use Rattle.xc_lines.specs.Lines.{is_escaped, hex_digit, printed, printed_char}
+use Rattle.xc_lines.specs.Lines.{is_escaped, hex_digit, printed_text, printed_char}
 use lib.Utf8.{encode, encodes, next}
 
 -- ---- one character
@@ -82,7 +82,7 @@ pieces [] = All-nil IsOfWord
 pieces (c ∷ cs) = All-append IsOfWord (printed_char c) (flat_map printed_char cs) (piece_by c (is_escaped c) refl) (pieces cs)
 
 -- what is printed is made of bytes of words
-pub of_words : (text : List ℕ) → All IsOfWord (printed text)
+pub of_words : (text : List ℕ) → All IsOfWord (printed_text text)
 of_words [] = more 37 [] (omega arith, omega arith) (All-nil IsOfWord)
 of_words (byte ∷ bytes) = pieces (chars (byte ∷ bytes))
 

@@ -10,7 +10,7 @@ use Rattle.xc_calc.specs.declared.arc.Network.{Network}
 use Rattle.xc_interval.specs.Ranges.{is_empty_range}
 use Rattle.xc_interval.specs.declared.mode.Mode.{Mode}
 use Rattle.xc_interval.specs.declared.mode.Mode.TheVariants.{Rounding, Truncation}
-use Rattle.xc_lines.specs.Lines.{printed}
+use Rattle.xc_lines.specs.Lines.{printed_text}
 use Rattle.xc_points.specs.declared.types.Point.{Point}
 use Rattle.xc_report.specs.declared.reports.Fact.{Fact}
 
@@ -60,6 +60,7 @@ verdict_code mode Inconsistent = mode_code mode
 verdict_code mode Unjudged = []
 verdict_code mode TooWide = []
 
+-- the word of a verdict, between blanks
 abbrev pub verdict_word : Verdict → List ℕ
 verdict_word Consistent = codes " consistent "
 verdict_word Inconsistent = codes " inconsistent "
@@ -68,11 +69,11 @@ verdict_word TooWide = codes " too-wide "
 
 -- the verdict of a binding, by its number, the role of its network and its total's first fact
 abbrev pub binding_line : Mode → ℕ → List ℕ → List ℕ → Verdict → List ℕ
-binding_line mode number role id verdict = codes "binding " ++ decimal number ++ verdict_word verdict ++ printed role ++ codes " " ++ printed id ++ verdict_code mode verdict ++ codes "\n"
+binding_line mode number role id verdict = codes "binding " ++ decimal number ++ verdict_word verdict ++ printed_text role ++ codes " " ++ printed_text id ++ verdict_code mode verdict ++ codes "\n"
 
 -- a point that no value satisfies, by its number and its first fact
 abbrev pub empty_point_line : ℕ → List ℕ → List ℕ
-empty_point_line number id = codes "point " ++ decimal number ++ codes " empty " ++ printed id ++ codes " xc:emptyDataPoint\n"
+empty_point_line number id = codes "point " ++ decimal number ++ codes " empty " ++ printed_text id ++ codes " xc:emptyDataPoint\n"
 
 -- ---- the findings
 

@@ -10,7 +10,7 @@ use Rattle.xc_joint.specs.declared.types.Joint.TheVariants.{Settled, TooWide}
 use Rattle.xc_joint.specs.declared.types.Part.{Part}
 use Rattle.xc_joint.specs.declared.types.Part.TheVariants.{Values, Wide}
 use Rattle.xc_lines.specs.Judgements.{fact_id, wide_words}
-use Rattle.xc_lines.specs.Lines.{printed}
+use Rattle.xc_lines.specs.Lines.{printed_text}
 use Rattle.xc_lines.specs.Settled.{settled_lines}
 use Rattle.xc_report.specs.declared.reports.Fact.{Fact}
 
@@ -25,7 +25,7 @@ corner_words corner = codes "basic" ++ number_words corner.basic ++ codes " high
 -- why the component of this number has no answer: a fact that is wide, with its id; or two ends and the operation that passes; or
 -- a corner and the operation that passes there
 abbrev pub cause_line : List Fact → ℕ → Cause → List ℕ
-cause_line facts k (FactNumber f) = codes "component " ++ decimal k ++ codes " wide-fact " ++ decimal f ++ codes " " ++ printed (fact_id facts f) ++ codes "\n"
+cause_line facts k (FactNumber f) = codes "component " ++ decimal k ++ codes " wide-fact " ++ decimal f ++ codes " " ++ printed_text (fact_id facts f) ++ codes "\n"
 cause_line facts k (Ends low high wide) = codes "component " ++ decimal k ++ codes " ends " ++ decimal low ++ codes " " ++ decimal high ++ codes " op " ++ wide_words wide ++ codes "\n"
 cause_line facts k (Corner corner wide) = codes "component " ++ decimal k ++ codes " corner " ++ corner_words corner ++ codes " op " ++ wide_words wide ++ codes "\n"
 

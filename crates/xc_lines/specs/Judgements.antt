@@ -5,7 +5,7 @@ use Rattle.xc_decimal.specs.Spelling.{spelling}
 use Rattle.xc_frac.specs.declared.wide.Op.{Op}
 use Rattle.xc_frac.specs.declared.wide.Op.TheVariants.{Add, Sub, Mul, Div}
 use Rattle.xc_frac.specs.declared.wide.Wide.{Wide}
-use Rattle.xc_lines.specs.Lines.{printed}
+use Rattle.xc_lines.specs.Lines.{printed_text}
 use Rattle.xc_report.specs.declared.reports.Fact.{Fact}
 use Rattle.xc_system.specs.declared.types.Certificate.{Certificate}
 use Rattle.xc_system.specs.declared.types.Certificate.TheVariants.{Feasible, Infeasible}
@@ -37,6 +37,7 @@ what_words (Binding k) = codes "binding " ++ decimal k
 what_words (FactNumber k) = codes "fact " ++ decimal k
 what_words Constant = codes "constant"
 
+-- the word of an operation
 abbrev pub op_word : Op → List ℕ
 op_word Add = codes "add"
 op_word Sub = codes "sub"
@@ -51,5 +52,5 @@ wide_words wide = op_word wide.op ++ codes " " ++ spelling wide.left ++ codes " 
 abbrev pub judgement_line : List Fact → Certificate → Judgement → List ℕ
 judgement_line facts certificate Accepted = codes "accepted " ++ claim certificate ++ codes "\n"
 judgement_line facts certificate (Misses what) = codes "misses " ++ what_words what ++ codes "\n"
-judgement_line facts certificate (WideFact k) = codes "too-wide fact " ++ decimal k ++ codes " " ++ printed (fact_id facts k) ++ codes "\n"
+judgement_line facts certificate (WideFact k) = codes "too-wide fact " ++ decimal k ++ codes " " ++ printed_text (fact_id facts k) ++ codes "\n"
 judgement_line facts certificate (TooWide what wide) = codes "too-wide " ++ what_words what ++ codes " " ++ wide_words wide ++ codes "\n"

@@ -8,7 +8,7 @@ use Rattle.xc_cert.specs.Certificates.{IsCertificate, IsPassedText, IsTextOf}
 use Rattle.xc_interval.specs.declared.mode.Mode.{Mode}
 use Rattle.xc_lines.specs.Findings.{CarryFacts, findings}
 use Rattle.xc_lines.specs.JointPart.{IsJointPart, IsPlainText}
-use Rattle.xc_lines.specs.Lines.{printed}
+use Rattle.xc_lines.specs.Lines.{printed_text}
 use Rattle.xc_lines.specs.Settled.{settled_lines}
 use Rattle.xc_points.specs.Gathered.{ArePoints}
 use Rattle.xc_points.specs.Kept.{Gathered, AreKept}
@@ -22,11 +22,11 @@ IsOfWord byte = (32 < byte) × (byte ≢ 127)
 
 -- a printed text is one word of its line: it has a byte, and no space, no line feed and no other control character
 abbrev pub PrintsOneWord : Type 0
-PrintsOneWord = (text : List ℕ) → IsUtf8 text → (printed text ≢ []) × All IsOfWord (printed text)
+PrintsOneWord = (text : List ℕ) → IsUtf8 text → (printed_text text ≢ []) × All IsOfWord (printed_text text)
 
 -- texts that are printed alike are one text
 abbrev pub PrintsApart : Type 0
-PrintsApart = (a b : List ℕ) → IsUtf8 a → IsUtf8 b → printed a ≡ printed b → a ≡ b
+PrintsApart = (a b : List ℕ) → IsUtf8 a → IsUtf8 b → printed_text a ≡ printed_text b → a ≡ b
 
 -- the numbers in the data points of a report are those of its facts
 abbrev pub PointsCarryFacts : Type 0

@@ -16,9 +16,9 @@ abbrev pub printed_char : ℕ → List ℕ
 printed_char c = if is_escaped c then 37 ∷ hex_digit (c / 16) ∷ hex_digit (c % 16) ∷ [] else encode_utf8 c
 
 -- a text as it is printed; the empty text is `%`
-abbrev pub printed : List ℕ → List ℕ
-printed [] = 37 ∷ []
-printed (byte ∷ bytes) = flat_map printed_char (chars (byte ∷ bytes))
+abbrev pub printed_text : List ℕ → List ℕ
+printed_text [] = 37 ∷ []
+printed_text (byte ∷ bytes) = flat_map printed_char (chars (byte ∷ bytes))
 
 -- the words that are accepted
 abbrev pub usage_line : List ℕ
@@ -26,12 +26,12 @@ usage_line = codes "usage: xcalc sum MODE REPORT TOTAL TERM... | check [--old-ar
 
 -- a file that could not be read
 abbrev pub read_fault_line : List ℕ → List ℕ
-read_fault_line name = codes "read-fault " ++ printed name ++ codes "\n"
+read_fault_line name = codes "read-fault " ++ printed_text name ++ codes "\n"
 
 -- a file that is refused
 abbrev pub refusal_line : List ℕ → List ℕ → List ℕ
-refusal_line name code = codes "refused " ++ printed name ++ codes " " ++ code ++ codes "\n"
+refusal_line name code = codes "refused " ++ printed_text name ++ codes " " ++ code ++ codes "\n"
 
 -- a file that is refused, with the place of the fault
 abbrev pub placed_refusal_line : List ℕ → List ℕ → List ℕ → List ℕ
-placed_refusal_line name code place = codes "refused " ++ printed name ++ codes " " ++ code ++ codes " " ++ printed place ++ codes "\n"
+placed_refusal_line name code place = codes "refused " ++ printed_text name ++ codes " " ++ code ++ codes " " ++ printed_text place ++ codes "\n"

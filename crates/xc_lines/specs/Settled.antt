@@ -2,7 +2,7 @@
 use Rattle.std.specs.Prelude.{ℕ, ◌==◌, ◌||◌, Bool, List, ◌++◌, filter, codes, decimal}
 use Rattle.std.specs.List.{list_any, flat_map, enumerate_from}
 use Rattle.xc_cert.specs.Certificates.{certificate_text}
-use Rattle.xc_lines.specs.Lines.{printed}
+use Rattle.xc_lines.specs.Lines.{printed_text}
 use Rattle.xc_model.specs.Ratio.{Ratio}
 use Rattle.xc_report.specs.declared.reports.Fact.{Fact}
 use Rattle.xc_system.specs.Kept.{Multipliers}
@@ -19,7 +19,7 @@ is_named r k = is_listed r.lows k || is_listed r.highs k
 
 -- a fact that is named, by its number and its id
 abbrev pub because_line : ℕ → List ℕ → List ℕ
-because_line number id = codes "because fact " ++ decimal number ++ codes " " ++ printed id ++ codes "\n"
+because_line number id = codes "because fact " ++ decimal number ++ codes " " ++ printed_text id ++ codes "\n"
 
 -- the lines of those of these facts that are named, each behind its number
 abbrev pub because_lines : Multipliers → List (ℕ × Fact) → List ℕ

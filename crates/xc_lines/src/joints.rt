@@ -3,7 +3,7 @@ ghost use Rattle.std.specs.Prelude.{◌≡◌, ◌<◌, ◌++◌, All, IfOk, OnO
 ghost use Rattle.std.specs.List.{enumerate_from};
 ghost use Rattle.xc_lines.specs.Joints.{IsWritable, NamesFactOf, cause_line, corner_words, joint_lines, number_words, part_line, part_lines};
 ghost use Rattle.xc_lines.specs.Judgements.{fact_id, wide_words};
-ghost use Rattle.xc_lines.specs.Lines.{printed};
+ghost use Rattle.xc_lines.specs.Lines.{printed_text};
 ghost use Rattle.xc_joint.specs.declared.types.Part.TheVariants as part;
 
 use crate::judgements::{fact_id, push_wide};
@@ -84,7 +84,7 @@ fn push_cause(
 {
     match cause {
         Cause::Fact(fact) => {
-            let line = wide_fact_line(alloc, number, *fact, fact_id(facts, *fact))?;
+            let line = component_wide_fact_line(alloc, number, *fact, fact_id(facts, *fact))?;
             Ok(out.extend_from_slice(line.as_bytes())?)
         }
         Cause::Ends(low, high, wide) => {
@@ -107,11 +107,16 @@ fn push_operation(alloc: Global, out: &mut Vec<u8>, head: &str, wide: Wide) -> R
     Ok(out.push(b'\n')?)
 }
 
-fn wide_fact_line(alloc: Global, number: usize, fact: u32, id: &str) -> Result<String, AllocError>
+fn component_wide_fact_line(
+    alloc: Global,
+    number: usize,
+    fact: u32,
+    id: &str,
+) -> Result<String, AllocError>
     ensures { IfOk result (λ line. string_bytes line ≡ codes "component " ++ decimal number ++ codes " wide-fact "
-        ++ decimal fact ++ codes " " ++ printed id.now ++ codes "\n") }
+        ++ decimal fact ++ codes " " ++ printed_text id.now ++ codes "\n") }
 {
-    let mut line = component(alloc, number, " wide-fact ")?;
+    let mut line = component_head(alloc, number, " wide-fact ")?;
     push_number(&mut line, fact as usize)?;
     line.push_str(" ")?;
     push_text(&mut line, id)?;
@@ -124,7 +129,7 @@ fn ends_head(alloc: Global, number: usize, low: u32, high: u32) -> Result<String
     ensures { IfOk result (λ head. string_bytes head ≡ codes "component " ++ decimal number ++ codes " ends "
         ++ decimal low ++ codes " " ++ decimal high ++ codes " op ") }
 {
-    let mut head = component(alloc, number, " ends ")?;
+    let mut head = component_head(alloc, number, " ends ")?;
     push_number(&mut head, low as usize)?;
     head.push_str(" ")?;
     push_number(&mut head, high as usize)?;
@@ -137,7 +142,7 @@ fn corner_head(alloc: Global, number: usize, corner: &Corner) -> Result<String, 
     ensures { IfOk result (λ head. string_bytes head ≡ codes "component " ++ decimal number ++ codes " corner "
         ++ corner_words corner.now ++ codes " op ") }
 {
-    let mut head = component(alloc, number, " corner ")?;
+    let mut head = component_head(alloc, number, " corner ")?;
     push_corner(&mut head, corner)?;
     head.push_str(" op ")?;
     Ok(head)
@@ -165,7 +170,7 @@ fn push_numbers(out: &mut String, numbers: &[u32]) -> Result<(), AllocError>
 }
 
 // The beginning of the line of a component.
-fn component(alloc: Global, number: usize, word: &str) -> Result<String, AllocError>
+fn component_head(alloc: Global, number: usize, word: &str) -> Result<String, AllocError>
     ensures { IfOk result (λ head. string_bytes head ≡ codes "component " ++ decimal number ++ word.now) }
 {
     let mut head = String::from_str(alloc, "component ")?;

@@ -1,7 +1,7 @@
 // The line of a certificate's judgement.
 ghost use Rattle.std.specs.Prelude.{◌≡◌, ◌<◌, ◌++◌, IfOk, OnOk, codes, decimal, length, string_bytes};
 ghost use Rattle.xc_lines.specs.Judgements.{NamesFact, claim, fact_id, judgement_line, op_word, what_words, wide_words};
-ghost use Rattle.xc_lines.specs.Lines.{printed};
+ghost use Rattle.xc_lines.specs.Lines.{printed_text};
 
 use crate::texts::{push_number, push_text};
 use std::alloc::{AllocError, Global};
@@ -71,7 +71,7 @@ fn misses_line(alloc: Global, what: What) -> Result<String, AllocError>
 }
 
 fn wide_fact_line(alloc: Global, number: u32, id: &str) -> Result<String, AllocError>
-    ensures { IfOk result (λ line. string_bytes line ≡ codes "too-wide fact " ++ decimal number ++ codes " " ++ printed id.now ++ codes "\n") }
+    ensures { IfOk result (λ line. string_bytes line ≡ codes "too-wide fact " ++ decimal number ++ codes " " ++ printed_text id.now ++ codes "\n") }
 {
     let mut line = String::from_str(alloc, "too-wide fact ")?;
     push_number(&mut line, number as usize)?;

@@ -17,7 +17,7 @@ pub use judgements::judgement_line;
 pub use lines::{placed_refusal_line, read_fault_line, refusal_line, usage_line};
 pub use settled::settled_lines;
 pub use summary::{is_inconsistent, is_too_wide, summary_lines};
-pub use texts::printed;
+pub use texts::printed_text;
 
 #[cfg(test)]
 mod tests;

@@ -3,7 +3,7 @@ ghost use Rattle.std.specs.Prelude.{◌≡◌, ◌++◌, ◌||◌, [], IfOk, OnO
 ghost use Rattle.std.specs.List.{enumerate_from};
 ghost use Rattle.xc_cert.specs.Certificates.{HasFewValues, IsCertificate, certificate_text};
 ghost use Rattle.xc_lines.specs.Settled.{because_line, because_lines, settled_lines};
-ghost use Rattle.xc_lines.specs.Steps.Named.{taken};
+ghost use Rattle.xc_lines.specs.Steps.Named.{take_number};
 
 use crate::texts::{push_number, push_text};
 use std::alloc::{AllocError, Global};
@@ -65,8 +65,8 @@ fn push_because(out: &mut String, facts: &[Fact], refutation: &Refutation) -> Re
     let mut lows = refutation.lows();
     let mut highs = refutation.highs();
     for (number, fact) in facts.iter().enumerate() {
-        let (is_low, lows_left) = taken(lows, number);
-        let (is_high, highs_left) = taken(highs, number);
+        let (is_low, lows_left) = take_number(lows, number);
+        let (is_high, highs_left) = take_number(highs, number);
         push_if_named(out, either(is_low, is_high), number, fact.id.as_str())?;
         lows = lows_left;
         highs = highs_left;
@@ -75,9 +75,9 @@ fn push_because(out: &mut String, facts: &[Fact], refutation: &Refutation) -> Re
 }
 
 // Whether the first is of this number, and what is left then.
-fn taken(listed: &[(u32, Frac)], number: usize) -> (bool, &[(u32, Frac)])
-    ensures named { result.0 ≡ (taken listed.now number).0 }
-    ensures left { result.1.now ≡ (taken listed.now number).1 }
+fn take_number(listed: &[(u32, Frac)], number: usize) -> (bool, &[(u32, Frac)])
+    ensures named { result.0 ≡ (take_number listed.now number).0 }
+    ensures left { result.1.now ≡ (take_number listed.now number).1 }
 {
     let Some((first, rest)) = listed.split_first() else {
         return (false, listed);

@@ -3,7 +3,9 @@ ghost use Rattle.std.specs.Prelude.{◌<◌, All};
 ghost use Rattle.std.specs.Bool.{OnTrue};
 
 use crate::laws::points_carry_facts;
-use crate::{findings, placed_refusal_line, printed, read_fault_line, refusal_line, usage_line};
+use crate::{
+    findings, placed_refusal_line, printed_text, read_fault_line, refusal_line, usage_line,
+};
 use std::alloc::Global;
 use std::process::Abort;
 use std::test::Fail;
@@ -188,7 +190,7 @@ fn lines_of_texts(rt: HostRuntime) -> Result<(), Fail> {
         ("~\u{7F}\u{80}", "~%7F\u{80}"),
         ("\u{E9}\u{20AC}\u{1F600}", "\u{E9}\u{20AC}\u{1F600}"),
     ] {
-        assert_eq!(rt; printed(alloc, text)?.as_str(), word);
+        assert_eq!(rt; printed_text(alloc, text)?.as_str(), word);
     }
     assert_eq!(rt;
         usage_line(),

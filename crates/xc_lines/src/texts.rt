@@ -1,13 +1,13 @@
 // Texts and numbers in lines.
 ghost use Rattle.std.specs.Prelude.{◌≡◌, ◌<◌, ◌++◌, IfOk, OnOk, decimal, string_bytes};
-ghost use Rattle.xc_lines.specs.Lines.{printed, printed_char, is_escaped, hex_digit};
+ghost use Rattle.xc_lines.specs.Lines.{printed_text, printed_char, is_escaped, hex_digit};
 
 use std::alloc::{AllocError, Global};
 
 /// A text as it is printed in a line: each character up to the space, `%` and the delete character as `%` and two
 /// hexadecimal digits in capitals, the empty text as `%`. The only error is want of memory.
-pub fn printed(alloc: Global, text: &str) -> Result<String, AllocError>
-    ensures printed { IfOk result (λ out. string_bytes out ≡ printed text.now) }
+pub fn printed_text(alloc: Global, text: &str) -> Result<String, AllocError>
+    ensures printed { IfOk result (λ out. string_bytes out ≡ printed_text text.now) }
 {
     let mut out = String::new(alloc);
     push_text(&mut out, text)?;
@@ -16,7 +16,7 @@ pub fn printed(alloc: Global, text: &str) -> Result<String, AllocError>
 
 /// Appends a text as it is printed.
 pub(crate) fn push_text(out: &mut String, text: &str) -> Result<(), AllocError>
-    ensures { OnOk result (string_bytes out.new ≡ string_bytes out.old ++ printed text.now) }
+    ensures { OnOk result (string_bytes out.new ≡ string_bytes out.old ++ printed_text text.now) }
 {
     if text.is_empty() {
         return out.push('%');

@@ -7,7 +7,7 @@ use Rattle.xc_corners.specs.Corners.{Corner, Factors, corner_of, IsSolvedForm}
 use Rattle.xc_corners.specs.Ending.{IsSmallNumber, StandsInSmall, StandsInValue, StandsInValues}
 use Rattle.xc_corners.specs.LastOperations.{IsFeasibleAt, PassesInSolving, StandsInSolving, in_walk, in_small, in_values}
 use Rattle.xc_corners.specs.Problems.{WholeProblem, IsWholeProblem}
-use Rattle.xc_corners.specs.WholeNumbers.{whole}
+use Rattle.xc_corners.specs.WholeNumbers.{whole_problem}
 use Rattle.xc_corners.specs.declared.multipliers.Multipliers.{Multipliers}
 use Rattle.xc_corners.specs.declared.problem.Problem.{Problem}
 use Rattle.xc_frac.specs.declared.wide.Wide.{Wide}
@@ -42,51 +42,51 @@ conflict_here laws p h x t above b f (inr (a, d, conflict)) leaves =
     let one = laws.leaving p x t t a above d b h f f conflict.leaves leaves in
     subst (λ s. IsConflict p x t s b) one.0 (subst (λ k. IsConflict p x t a k) one.1 conflict)
 
-module _ (laws : CornerLaws) (problem : Problem) (h : IsWholeProblem (whole problem)) (x : Corner) (t : Factors) (solved : IsSolvedForm (whole problem) x t) (none : HasNoChoice (whole problem) x t) (reached : IsReached (whole problem) x) (nothing : NothingPasses problem) where
-  no_exchange : (b q : ℕ) (y : Corner) → ¬ Exchange (whole problem) x b q y
+module _ (laws : CornerLaws) (problem : Problem) (h : IsWholeProblem (whole_problem problem)) (x : Corner) (t : Factors) (solved : IsSolvedForm (whole_problem problem) x t) (none : HasNoChoice (whole_problem problem) x t) (reached : IsReached (whole_problem problem) x) (nothing : NothingPasses problem) where
+  no_exchange : (b q : ℕ) (y : Corner) → ¬ Exchange (whole_problem problem) x b q y
   no_exchange b q y e = ⊎_elim
-      (λ (f : IsFeasible (whole problem) x t). laws.feasible (whole problem) x y t b q solved f e)
-      (λ (f : (above : Bool) × (d : ℕ) × IsConflict (whole problem) x t above d). laws.conflict (whole problem) x y t f.0 f.1 b q h solved f.2 e)
+      (λ (f : IsFeasible (whole_problem problem) x t). laws.feasible (whole_problem problem) x y t b q solved f e)
+      (λ (f : (above : Bool) × (d : ℕ) × IsConflict (whole_problem problem) x t above d). laws.conflict (whole_problem problem) x y t f.0 f.1 b q h solved f.2 e)
       none
 
-  same_from : (m : ℕ) (y z : Corner) → Exchanges (whole problem) m y z → ((b q : ℕ) (u : Corner) → ¬ Exchange (whole problem) y b q u) → y ≡ z
+  same_from : (m : ℕ) (y z : Corner) → Exchanges (whole_problem problem) m y z → ((b q : ℕ) (u : Corner) → ¬ Exchange (whole_problem problem) y b q u) → y ≡ z
   same_from zero y z e no_next = e
   same_from (suc m) y z (u, b, q, e, es) no_next = absurd (no_next b q u e)
 
   -- a corner of the run that is feasible is this one
-  same_last : (y : Corner) (s : Factors) → IsReached (whole problem) y → IsFeasibleAt problem y s → y ≡ x
+  same_last : (y : Corner) (s : Factors) → IsReached (whole_problem problem) y → IsFeasibleAt problem y s → y ≡ x
   same_last y s (k, r) at = ⊎_elim
-      (λ (i : (m : ℕ) × Exchanges (whole problem) m x y × (k ≡ reached.0 + m)). sym (same_from i.0 x y i.1 no_exchange))
-      (λ (i : (m : ℕ) × Exchanges (whole problem) m y x × (reached.0 ≡ k + m)). same_from i.0 y x i.1 (λ b q u e. laws.feasible (whole problem) y u s b q at.solved at.feasible e))
-      (laws.along (whole problem) reached.0 k x y h reached.1 r)
+      (λ (i : (m : ℕ) × Exchanges (whole_problem problem) m x y × (k ≡ reached.0 + m)). sym (same_from i.0 x y i.1 no_exchange))
+      (λ (i : (m : ℕ) × Exchanges (whole_problem problem) m y x × (reached.0 ≡ k + m)). same_from i.0 y x i.1 (λ b q u e. laws.feasible (whole_problem problem) y u s b q at.solved at.feasible e))
+      (laws.along (whole_problem problem) reached.0 k x y h reached.1 r)
 
   -- at a feasible corner
-  pub nothing_feasible : (small : Ratio) → IsSmallNumber (whole problem) x t small → SmallStays (whole problem) x t → ValuesStay (whole problem) x t small → NothingStops problem
+  pub nothing_feasible : (small : Ratio) → IsSmallNumber (whole_problem problem) x t small → SmallStays (whole_problem problem) x t → ValuesStay (whole_problem problem) x t small → NothingStops problem
   nothing_feasible small is_small small_stays values_stay y w r passes = go passes.stands
     where
-      here : (s : Factors) → IsFeasibleAt problem y s → IsSolvedForm (whole problem) x s
-      here s at = subst (λ z. IsSolvedForm (whole problem) z s) (same_last y s r at) at.solved
+      here : (s : Factors) → IsFeasibleAt problem y s → IsSolvedForm (whole_problem problem) x s
+      here s at = subst (λ z. IsSolvedForm (whole_problem problem) z s) (same_last y s r at) at.solved
 
       go : StandsInSolving problem y w → ⊥
       go (in_walk stands) = nothing y w r (record { stands = stands; passes = passes.passes })
       go (in_small s at stands) =
-          let stands_here = subst (λ z. StandsInSmall (whole problem) z s w) (same_last y s r at) stands in
-          small_stays w (in_small_moves laws (whole problem) x s t (here s at) solved h.unit w stands_here) passes.passes
+          let stands_here = subst (λ z. StandsInSmall (whole_problem problem) z s w) (same_last y s r at) stands in
+          small_stays w (in_small_moves laws (whole_problem problem) x s t (here s at) solved h.unit w stands_here) passes.passes
       go (in_values s at stands) =
-          let stands_here = subst (λ z. StandsInValues (whole problem) z s w) (same_last y s r at) stands in
-          let own = small_moves laws (whole problem) x s t (here s at) solved h.unit stands_here.small stands_here.is_small in
-          let same = small_one (whole problem) x t stands_here.small small own is_small in
+          let stands_here = subst (λ z. StandsInValues (whole_problem problem) z s w) (same_last y s r at) stands in
+          let own = small_moves laws (whole_problem problem) x s t (here s at) solved h.unit stands_here.small stands_here.is_small in
+          let same = small_one (whole_problem problem) x t stands_here.small small own is_small in
           values_stay stands_here.range stands_here.is_range w
-          (in_value_moves laws (whole problem) x s t (here s at) solved h.unit small stands_here.range w stands_here.is_range (subst (λ z. StandsInValue (whole problem) x s z stands_here.range w) same stands_here.stands)) passes.passes
+          (in_value_moves laws (whole_problem problem) x s t (here s at) solved h.unit small stands_here.range w stands_here.is_range (subst (λ z. StandsInValue (whole_problem problem) x s z stands_here.range w) same stands_here.stands)) passes.passes
 
   -- at a conflict
-  pub nothing_conflict : (above : Bool) (b : ℕ) → IsConflict (whole problem) x t above b → NothingStops problem
+  pub nothing_conflict : (above : Bool) (b : ℕ) → IsConflict (whole_problem problem) x t above b → NothingStops problem
   nothing_conflict above b conflict y w r passes = go passes.stands
     where
       not_feasible : (s : Factors) → IsFeasibleAt problem y s → ⊥
       not_feasible s at =
           let here = subst (λ z. IsFeasibleAt problem z s) (same_last y s r at) at in
-          laws.outside (whole problem) x t s above b solved here.solved conflict.leaves.is_variable conflict.leaves.outside
+          laws.outside (whole_problem problem) x t s above b solved here.solved conflict.leaves.is_variable conflict.leaves.outside
           (here.feasible.within b conflict.leaves.is_variable conflict.leaves.basic)
 
       go : StandsInSolving problem y w → ⊥
@@ -95,7 +95,7 @@ module _ (laws : CornerLaws) (problem : Problem) (h : IsWholeProblem (whole prob
       go (in_values s at stands) = not_feasible s at
 
   -- an operation that passes on the way to the values
-  pub passes_feasible : (w : Wide) → IsFeasible (whole problem) x t → PassesFeasible (whole problem) x t w → PassesInSolving problem x w
+  pub passes_feasible : (w : Wide) → IsFeasible (whole_problem problem) x t → PassesFeasible (whole_problem problem) x t w → PassesInSolving problem x w
   passes_feasible w feasible (inl p) = record { stands = in_small t (record { solved = solved; feasible = feasible }) p.stands; passes = p.passes }
   passes_feasible w feasible (inr (small, is_small, p)) = record {
     stands = in_values t (record { solved = solved; feasible = feasible }) (record { small = small; is_small = is_small; range = p.range; is_range = p.is_range; stands = p.at.stands });
@@ -122,7 +122,7 @@ module _ {E : Type 0} (r : Result Outcome E) (places : List Place) (w : Wide) (s
       go (Ok (TooWide lists v)) h = tt
       go (Err e) h = tt
 
-  pub stops_at : (problem : Problem) (m n : ℕ) (x : Corner) → ArePlaces m n x places → IsReached (whole problem) x → PassesInSolving problem x w → IfOk r (IfStopped (StopsAt problem))
+  pub stops_at : (problem : Problem) (m n : ℕ) (x : Corner) → ArePlaces m n x places → IsReached (whole_problem problem) x → PassesInSolving problem x w → IfOk r (IfStopped (StopsAt problem))
   stops_at problem m n x placed reached passes = go r stop
     where
       go : (r : Result Outcome E) → IfOk r (IsStop places w) → IfOk r (IfStopped (StopsAt problem))
@@ -130,5 +130,5 @@ module _ {E : Type 0} (r : Result Outcome E) (places : List Place) (w : Wide) (s
       go (Ok (Infeasible ms)) h = tt
       go (Ok (TooWide lists v)) h =
           let same : x ≡ corner_of lists = sym (h.0 m n x placed) in
-          (subst (λ z. IsReached (whole problem) z) same reached, subst (λ z. PassesInSolving problem z v) same (subst (λ (o : Wide). PassesInSolving problem x o) h.1 passes))
+          (subst (λ z. IsReached (whole_problem problem) z) same reached, subst (λ z. PassesInSolving problem z v) same (subst (λ (o : Wide). PassesInSolving problem x o) h.1 passes))
       go (Err e) h = tt

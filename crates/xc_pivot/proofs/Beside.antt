@@ -16,7 +16,7 @@ use Rattle.xc_corners.specs.Corners.{low_bound, high_bound}
 use Rattle.xc_corners.specs.Laws.{HasEndBounds}
 use Rattle.xc_corners.specs.Operations.{part}
 use Rattle.xc_corners.specs.Pairs.{◌≺◌, ◌≼◌, times}
-use Rattle.xc_corners.specs.WholeNumbers.{whole}
+use Rattle.xc_corners.specs.WholeNumbers.{whole_problem}
 use Rattle.xc_corners.specs.declared.problem.Problem.{Problem}
 use Rattle.xc_interval.specs.Ends.{value_of, is_open}
 use Rattle.xc_interval.specs.declared.interval.Interval.{Interval}
@@ -64,11 +64,11 @@ below_other Greater left right n h = below_at Greater left right h
 
 -- a range's bounds, by its ends
 pub low_parts : (problem : Problem) (j : ℕ) (range : Interval Ratio) (d : Delta Ratio) → HasEndBounds problem j range d.tiny → d.real ≡ value_of range.low → IsOver d.tiny (cond (is_open range.low) (pos 1) (pos 0)) 1 → IsLowOf problem j d
-low_parts problem j range d h e l false = subst (λ (f : Ratio). IsOver f (low_bound (whole problem) j).real (whole problem).unit) (sym e) h.low_real
+low_parts problem j range d h e l false = subst (λ (f : Ratio). IsOver f (low_bound (whole_problem problem) j).real (whole_problem problem).unit) (sym e) h.low_real
 low_parts problem j range d h e l true = h.low_tiny l
 
 pub high_parts : (problem : Problem) (j : ℕ) (range : Interval Ratio) (d : Delta Ratio) → HasEndBounds problem j range d.tiny → d.real ≡ value_of range.high → IsOver d.tiny (cond (is_open range.high) (negsuc 0) (pos 0)) 1 → IsHighOf problem j d
-high_parts problem j range d h e l false = subst (λ (f : Ratio). IsOver f (high_bound (whole problem) j).real (whole problem).unit) (sym e) h.high_real
+high_parts problem j range d h e l false = subst (λ (f : Ratio). IsOver f (high_bound (whole_problem problem) j).real (whole_problem problem).unit) (sym e) h.high_real
 high_parts problem j range d h e l true = h.high_tiny l
 
 -- a test of two numbers tells which is less

@@ -7,7 +7,7 @@ use Rattle.xc_lists.proofs.RowPlaces.{entry_there, place_below}
 use Rattle.xc_corners.specs.Corners.{variables, Corner, Factors}
 use Rattle.xc_corners.specs.Operations.{IsOwnFactor, IsOtherFactor, IsProductFactor, IsFactor, IsBasic, IsOther, StandsInExchange, own_divided, other_divided, own_times, other_times, other_added}
 use Rattle.xc_corners.specs.Problems.{WholeProblem}
-use Rattle.xc_corners.specs.WholeNumbers.{whole}
+use Rattle.xc_corners.specs.WholeNumbers.{whole_problem}
 use Rattle.xc_corners.specs.declared.problem.Problem.{Problem}
 use Rattle.xc_frac.specs.declared.wide.Wide.{Wide}
 use Rattle.xc_model.specs.Ratio.{Ratio}
@@ -138,7 +138,7 @@ module _ (p : WholeProblem) (m n : ℕ) (x : Corner) (t : Factors) (table : Tabl
 
 -- the values of the rows are those of the basic variables
 pub basic_values : (problem : Problem) (s : State) (x : Corner) (t : Factors) (choice : Choice) → IsAt problem s x t → HasRow s.places.items choice.leaving.variable choice.leaving.row → HasColumn s.places.items choice.entering.variable choice.entering.column
-    → length s.places.items ≡ variables (whole problem) → AreBasicAt (whole problem) x t choice s.table s.places.items s.values.items
+    → length s.places.items ≡ variables (whole_problem problem) → AreBasicAt (whole_problem problem) x t choice s.table s.places.items s.values.items
 basic_values problem s x t choice at hb hq vars k r d apart h e = record {
   basic = (omega (arith, row_within s.places.items k r h, vars), at.placed.basic k (Row r) h);
   apart = λ same. apart (row_one s.places.items choice.leaving.variable r choice.leaving.row (subst (λ j. HasRow s.places.items j r) same h) hb);

@@ -7,7 +7,7 @@ use Rattle.std.proofs.lemmas.List.{length_push}
 use Rattle.std.proofs.Math.ListN.{get_or-append}
 use Rattle.std.proofs.Math.Seq.{get_or-append_seam}
 use Rattle.std.proofs.lemmas.Option.{slice_get_within, get_or_from_slice_get, slice_get_read, slice_get_cases}
-use Rattle.xc_corners.specs.Choices.{first}
+use Rattle.xc_corners.specs.Choices.{first_corner}
 use Rattle.xc_corners.specs.Corners.{variables}
 use Rattle.xc_corners.specs.Laws.{FirstAreRows}
 use Rattle.xc_corners.specs.Problems.{WholeProblem}
@@ -93,15 +93,15 @@ module _ (n m : ℕ) (places : List Place) (all : AreFirstPlaces n places) (coun
       go (inr k) = subst (λ (p : Place). IsInside m n p) (sym (all j place e ∙ row_first n j k)) (omega (arith, slice_get_within places j place e, count))
 
   module _ (law : FirstAreRows) (p : WholeProblem) (ranges : length p.ranges ≡ n) (vars : variables p ≡ n + m) where
-    basic_first : (j : ℕ) (place : Place) → slice_get places j ≡ Some place → (first p).basic j ≡ is_row place
+    basic_first : (j : ℕ) (place : Place) → slice_get places j ≡ Some place → (first_corner p).basic j ≡ is_row place
     basic_first j place e = go (cases_lt j n)
       where
-        go : ((j < n) ⊎ (n ≤ j)) → (first p).basic j ≡ is_row place
+        go : ((j < n) ⊎ (n ≤ j)) → (first_corner p).basic j ≡ is_row place
         go (inl k) = (law p j).1 (omega (arith, ranges)) ∙ ap is_row (sym (all j place e ∙ low_first n j k))
         go (inr k) = (law p j).0 (omega (arith, ranges)) (omega (arith, vars, slice_get_within places j place e, count)) ∙ ap is_row (sym (all j place e ∙ row_first n j k))
 
-    high_first : (j : ℕ) (place : Place) → slice_get places j ≡ Some place → (first p).high j ≡ is_high place
-    unfolding first
+    high_first : (j : ℕ) (place : Place) → slice_get places j ≡ Some place → (first_corner p).high j ≡ is_high place
+    unfolding first_corner
     high_first j place e = go (cases_lt j n)
       where
         go : ((j < n) ⊎ (n ≤ j)) → false ≡ is_high place
@@ -114,15 +114,15 @@ module _ (n m : ℕ) (places : List Place) (all : AreFirstPlaces n places) (coun
     each_column : (c : ℕ) → c < n → (j : ℕ) × HasColumn places j c
     each_column c h = (c, inl (there c (omega arith) ∙ ap (λ (q : Place). Some q) (low_first n c h)))
 
-    none_after : (j : ℕ) → length places ≤ j → ((first p).basic j ≡ false) × ((first p).high j ≡ false)
-    unfolding first
+    none_after : (j : ℕ) → length places ≤ j → ((first_corner p).basic j ≡ false) × ((first_corner p).high j ≡ false)
+    unfolding first_corner
     none_after j h = (go (nat_le (length p.ranges) j) (not_less j (variables p) (nat_lt j (variables p)) (omega (arith, vars, count)) refl), refl)
       where
         go : (s : Bool) → nat_lt j (variables p) ≡ false → (s && nat_lt j (variables p)) ≡ false
         go true e = e
         go false e = refl
 
-    pub first_placed : ArePlaces m n (first p) places
+    pub first_placed : ArePlaces m n (first_corner p) places
     first_placed = record {
       basic = basic_first;
       high = high_first;

@@ -4,13 +4,13 @@ use Rattle.std.proofs.lemmas.Bool.{cases_lt}
 use Rattle.std.proofs.lemmas.List.{get_or_past}
 use Rattle.std.proofs.lemmas.Option.{slice_get_within}
 use Rattle.xc_model.proofs.Results.{over_one, product_stays}
-use Rattle.xc_corners.specs.Choices.{first}
+use Rattle.xc_corners.specs.Choices.{first_corner}
 use Rattle.xc_corners.specs.Corners.{variables, value}
 use Rattle.xc_corners.specs.Laws.{FirstSolved, FirstAreRows, FirstFactors, FirstRowValues}
 use Rattle.xc_corners.specs.Operations.{IsFactor, entries_of, StandsAtFirst, weight_added, low_times, low_added}
 use Rattle.xc_corners.specs.Problems.{IsWholeProblem}
 use Rattle.xc_corners.specs.Tables.{first_factors}
-use Rattle.xc_corners.specs.WholeNumbers.{whole}
+use Rattle.xc_corners.specs.WholeNumbers.{whole_problem}
 use Rattle.xc_corners.specs.declared.problem.Problem.{Problem}
 use Rattle.xc_frac.specs.Passes.{Passes}
 use Rattle.xc_frac.specs.declared.wide.Op.TheVariants.{Mul}
@@ -25,21 +25,21 @@ use Rattle.xc_pivot.proofs.FirstPlaces.{row_is, column_is, first_inside, first_p
 use Rattle.xc_pivot.proofs.Summed.{sum_of_one}
 
 module _ (problem : Problem) (s : State) (shaped : IsShaped problem s) (places : AreFirstPlaces (length problem.ranges) s.places.items) where
-  pub first_at : IsWholeProblem (whole problem) → FirstSolved → FirstAreRows → FirstFactors → FirstRowValues → (length (whole problem).ranges ≡ length problem.ranges) → (variables (whole problem) ≡ length problem.ranges + length problem.rows)
-      → HasSums problem (length problem.rows) s.table → HasLowSums problem (length problem.rows) s.values.items → IsAt problem s (first (whole problem)) (first_factors (whole problem))
+  pub first_at : IsWholeProblem (whole_problem problem) → FirstSolved → FirstAreRows → FirstFactors → FirstRowValues → (length (whole_problem problem).ranges ≡ length problem.ranges) → (variables (whole_problem problem) ≡ length problem.ranges + length problem.rows)
+      → HasSums problem (length problem.rows) s.table → HasLowSums problem (length problem.rows) s.values.items → IsAt problem s (first_corner (whole_problem problem)) (first_factors (whole_problem problem))
   first_at w solved basic ff fv ranges vars sums lows = record {
-    solved = solved (whole problem) w;
-    placed = first_placed (length problem.ranges) (length problem.rows) s.places.items places shaped.places basic (whole problem) ranges vars;
+    solved = solved (whole_problem problem) w;
+    placed = first_placed (length problem.ranges) (length problem.rows) s.places.items places shaped.places basic (whole_problem problem) ranges vars;
     factors = λ i j r c f h l has.
         let row = first_inside (length problem.ranges) (length problem.rows) s.places.items places shaped.places in
         let i_is = row_is (length problem.ranges) (length problem.rows) s.places.items places shaped.places i r h in
         let j_is = column_is (length problem.ranges) (length problem.rows) s.places.items places shaped.places j c l in
         let sum = sums r (row i _ h) c f (omega (arith, column_in j c l, shaped.columns)) has in
-        subst (λ k. IsFactor (first_factors (whole problem)) k j f) (sym i_is) (subst (λ k. IsFactor (first_factors (whole problem)) (length problem.ranges + r) k f) (sym j_is) (ff problem r c f sum));
+        subst (λ k. IsFactor (first_factors (whole_problem problem)) k j f) (sym i_is) (subst (λ k. IsFactor (first_factors (whole_problem problem)) (length problem.ranges + r) k f) (sym j_is) (ff problem r c f sum));
     values = λ i r d h e.
         let row = first_inside (length problem.ranges) (length problem.rows) s.places.items places shaped.places i _ h in
         let i_is = row_is (length problem.ranges) (length problem.rows) s.places.items places shaped.places i r h in
-        subst (λ k. ArePartsOf ((first_factors (whole problem)).over * (whole problem).unit) (value (whole problem) (first (whole problem)) (first_factors (whole problem)) k) d) (sym i_is) (λ b. fv problem r b (of_part d b) row (lows r d row e b));
+        subst (λ k. ArePartsOf ((first_factors (whole_problem problem)).over * (whole_problem problem).unit) (value (whole_problem problem) (first_corner (whole_problem problem)) (first_factors (whole_problem problem)) k) d) (sym i_is) (λ b. fv problem r b (of_part d b) row (lows r d row e b));
   }
     where
       column_in : (j c : ℕ) → HasColumn s.places.items j c → c < length problem.ranges

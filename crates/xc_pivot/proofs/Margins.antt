@@ -5,7 +5,7 @@ use Rattle.std.proofs.lemmas.Int.{ints}
 use Rattle.xc_model.proofs.Results.{over_one, quotient_one, quotient_stays}
 use Rattle.xc_model.proofs.OrdersOver.{below_over}
 use Rattle.xc_corners.specs.Corners.{Corner, Factors, value as value_at}
-use Rattle.xc_corners.specs.Ending.{IsTightAt, margin_taken, IsLimitPart, IsTight, IsMargin, IsQuotientAt, margin, divided}
+use Rattle.xc_corners.specs.Ending.{IsTightAt, margin_operation, IsLimitPart, IsTight, IsMargin, IsQuotientAt, margin, divided}
 use Rattle.xc_corners.specs.Operations.{operation, Gives, IsValuePart, passed_bound}
 use Rattle.xc_corners.specs.Pairs.{times}
 use Rattle.xc_corners.specs.Problems.{WholeProblem}
@@ -20,7 +20,7 @@ use Rattle.xc_model.proofs.Integers.{mul_positive, neg-mul}
 use Rattle.xc_model.proofs.Numbers.{den_positive}
 use Rattle.xc_model.proofs.NumbersOver.{over_number, below_number}
 use Rattle.xc_pivot.specs.Deltas.{of_part, GivesEach, ArePartsOf, PassesOne}
-use Rattle.xc_pivot.specs.Quotients.{mixed, ExceedsEach, IsApart, AreMargins, IsQuotientOf, IsAnswerOf, MarginsStay, PassesMargins, PassesDivision, IsAnswerAt, QuotientStays, PassesQuotient}
+use Rattle.xc_pivot.specs.Quotients.{mixed_parts, ExceedsEach, IsApart, AreMargins, IsQuotientOf, IsAnswerOf, MarginsStay, PassesMargins, PassesDivision, IsAnswerAt, QuotientStays, PassesQuotient}
 use Rattle.xc_pivot.proofs.Beside.{bound_times}
 use Rattle.xc_pivot.proofs.Operands.{difference_one}
 
@@ -45,26 +45,26 @@ module _ (limit value : Delta Ratio) (b a : WholeParts) (d : ℕ) (l : ArePartsO
   apart_if true h = (below_over _ _ _ _ d (over_number _ _ _ (v false)) (over_number _ _ _ (l false)) h.0, below_over _ _ _ _ d (over_number _ _ _ (l true)) (over_number _ _ _ (v true)) h.1)
 
 -- what is subtracted
-taken_is : (high c : Bool) (limit value : Delta Ratio) → operation Sub (of_part (mixed high limit value) c) (of_part (mixed (not high) limit value) c) ≡ margin_taken high c (of_part limit c) (of_part value c)
+taken_is : (high c : Bool) (limit value : Delta Ratio) → operation Sub (of_part (mixed_parts high limit value) c) (of_part (mixed_parts (not high) limit value) c) ≡ margin_operation high c (of_part limit c) (of_part value c)
 taken_is false false limit value = refl
 taken_is false true limit value = refl
 taken_is true false limit value = refl
 taken_is true true limit value = refl
 
-module _ (high : Bool) (limit value first second : Delta Ratio) (is_first : first ≡ mixed high limit value) (is_second : second ≡ mixed (not high) limit value) where
+module _ (high : Bool) (limit value first second : Delta Ratio) (is_first : first ≡ mixed_parts high limit value) (is_second : second ≡ mixed_parts (not high) limit value) where
   pub apart_of : ExceedsEach first second → IsApart high limit value
-  apart_of h = subst (λ (d : Delta Ratio). ExceedsEach d (mixed (not high) limit value)) is_first (subst (λ (d : Delta Ratio). ExceedsEach first d) is_second h)
+  apart_of h = subst (λ (d : Delta Ratio). ExceedsEach d (mixed_parts (not high) limit value)) is_first (subst (λ (d : Delta Ratio). ExceedsEach first d) is_second h)
 
   pub margins_of : (g : Delta Ratio) → GivesEach Sub (of_part first) (of_part second) g → AreMargins high limit value g
-  margins_of g h = subst (λ (d : Delta Ratio). GivesEach Sub (of_part d) (of_part (mixed (not high) limit value)) g) is_first (subst (λ (d : Delta Ratio). GivesEach Sub (of_part first) (of_part d) g) is_second h)
+  margins_of g h = subst (λ (d : Delta Ratio). GivesEach Sub (of_part d) (of_part (mixed_parts (not high) limit value)) g) is_first (subst (λ (d : Delta Ratio). GivesEach Sub (of_part first) (of_part d) g) is_second h)
 
 module _ (p : WholeProblem) (x : Corner) (t : Factors) (high : Bool) (j : ℕ) where
   margin_one : (c : Bool) (f g : Ratio) → IsMargin p x t high j c f → IsMargin p x t high j c g → f ≡ g
   margin_one c f g m n =
       let limit = over_one m.limit n.limit _ _ m.is_limit n.is_limit in
       let value = over_one m.value n.value _ _ m.is_value n.is_value in
-      difference_one (margin_taken high c n.limit n.value).left (margin_taken high c n.limit n.value).right f g
-      (subst (λ z. Gives Sub (margin_taken high c z n.value).left (margin_taken high c z n.value).right f) limit (subst (λ z. Gives Sub (margin_taken high c m.limit z).left (margin_taken high c m.limit z).right f) value m.gives)) n.gives
+      difference_one (margin_operation high c n.limit n.value).left (margin_operation high c n.limit n.value).right f g
+      (subst (λ z. Gives Sub (margin_operation high c z n.value).left (margin_operation high c z n.value).right f) limit (subst (λ z. Gives Sub (margin_operation high c m.limit z).left (margin_operation high c m.limit z).right f) value m.gives)) n.gives
 
   pub quotient_same : (q r : Ratio) → IsQuotientAt p x t high j q → IsQuotientAt p x t high j r → q ≡ r
   quotient_same q r a o =
@@ -102,19 +102,19 @@ module _ (p : WholeProblem) (x : Corner) (t : Factors) (high : Bool) (j : ℕ) w
     answer_here None h = λ tight. h (apart_here tight)
     answer_here (Some q) h = quotient_here q h
 
-    margin_stays : MarginsStay high limit value → IsTight p x t high j → (c : Bool) (f g : Ratio) → IsLimitPart p x t high j c f → IsValuePart p x t c j g → ¬ Passes Sub (margin_taken high c f g).left (margin_taken high c f g).right
+    margin_stays : MarginsStay high limit value → IsTight p x t high j → (c : Bool) (f g : Ratio) → IsLimitPart p x t high j c f → IsValuePart p x t c j g → ¬ Passes Sub (margin_operation high c f g).left (margin_operation high c f g).right
     margin_stays stays tight c f g is_limit is_value =
         let limit_is = over_one (of_part limit c) f _ _ (l c) is_limit in
         let value_is = over_one (of_part value c) g _ _ (v c) is_value in
-        subst (λ z. ¬ Passes Sub (margin_taken high c z g).left (margin_taken high c z g).right) limit_is
-        (subst (λ z. ¬ Passes Sub (margin_taken high c (of_part limit c) z).left (margin_taken high c (of_part limit c) z).right) value_is
+        subst (λ z. ¬ Passes Sub (margin_operation high c z g).left (margin_operation high c z g).right) limit_is
+        (subst (λ z. ¬ Passes Sub (margin_operation high c (of_part limit c) z).left (margin_operation high c (of_part limit c) z).right) value_is
         (subst (λ (w : Wide). ¬ Passes Sub w.left w.right) (taken_is high c limit value) (stays (apart_here tight) c)))
 
     stays_here : (o : Option Ratio) → IsAnswerOf high limit value o → MarginsStay high limit value → QuotientStays p x t high j
     stays_here None h stays w tight stands passes = h (apart_here tight)
     stays_here (Some q) h stays w tight (margin c f g is_limit is_value e) passes = margin_stays stays tight c f g is_limit is_value (taken_passes high c f g (subst (λ (z : Wide). Passes z.op z.left z.right) e passes))
       where
-        taken_passes : (high c : Bool) (f g : Ratio) → Passes (margin_taken high c f g).op (margin_taken high c f g).left (margin_taken high c f g).right → Passes Sub (margin_taken high c f g).left (margin_taken high c f g).right
+        taken_passes : (high c : Bool) (f g : Ratio) → Passes (margin_operation high c f g).op (margin_operation high c f g).left (margin_operation high c f g).right → Passes Sub (margin_operation high c f g).left (margin_operation high c f g).right
         taken_passes false false f g h = h
         taken_passes false true f g h = h
         taken_passes true false f g h = h
@@ -131,7 +131,7 @@ module _ (p : WholeProblem) (x : Corner) (t : Factors) (high : Bool) (j : ℕ) w
         tight : IsTight p x t high j
         tight = tight_if limit value (times (pos t.over) (passed_bound p high j)) (value_at p x t j) (t.over * p.unit) limit_over v high h.apart
 
-        go : (PassesOne Sub (of_part (mixed high limit value)) (of_part (mixed (not high) limit value)) w ⊎ PassesDivision high limit value w) → PassesQuotient p x t high j w
+        go : (PassesOne Sub (of_part (mixed_parts high limit value)) (of_part (mixed_parts (not high) limit value)) w ⊎ PassesDivision high limit value w) → PassesQuotient p x t high j w
         go (inl one) = record {
           tight = tight;
           stands = margin one.part (of_part limit one.part) (of_part value one.part) (l one.part) (v one.part) (one.is ∙ taken_is high one.part limit value);

@@ -7,7 +7,7 @@ use Rattle.xc_corners.specs.Corners.{low_bound, high_bound, bound, Corner, Facto
 use Rattle.xc_corners.specs.Laws.{OtherIsAtBound}
 use Rattle.xc_corners.specs.Pairs.{times}
 use Rattle.xc_corners.specs.Problems.{WholeProblem}
-use Rattle.xc_corners.specs.WholeNumbers.{whole}
+use Rattle.xc_corners.specs.WholeNumbers.{whole_problem}
 use Rattle.xc_corners.specs.declared.problem.Problem.{Problem}
 use Rattle.xc_frac.specs.declared.delta.Delta.{Delta}
 use Rattle.xc_model.specs.Parts.{WholeParts}
@@ -40,7 +40,7 @@ pub column_other : (m n : ℕ) (x : Corner) (places : List Place) (j c : ℕ) �
 column_other m n x places j c a (inl h) = a.basic j (Low c) h
 column_other m n x places j c a (inr h) = a.basic j (High c) h
 
-pub outside_of : (problem : Problem) (x : Corner) (t : Factors) (j : ℕ) (above : Bool) → IsSideOf (Some above) problem j t.over (value (whole problem) x t j) → IsOutside (whole problem) x t above j
+pub outside_of : (problem : Problem) (x : Corner) (t : Factors) (j : ℕ) (above : Bool) → IsSideOf (Some above) problem j t.over (value (whole_problem problem) x t j) → IsOutside (whole_problem problem) x t above j
 outside_of problem x t j false h = h
 outside_of problem x t j true h = h
 

@@ -4,13 +4,13 @@ use Rattle.std.specs.Prelude.{slice_set}
 use Rattle.std.proofs.lemmas.Bool.{cases_eq, eq-eqb, ne_eqb}
 use Rattle.std.proofs.lemmas.List.{get_or-set_same, get_or-set_other, length-set}
 use Rattle.std.proofs.lemmas.Option.{slice_get_read, slice_get_within, get_or_from_slice_get}
-use Rattle.xc_corners.specs.Choices.{exchanged}
+use Rattle.xc_corners.specs.Choices.{corner_after_exchange}
 use Rattle.xc_corners.specs.Corners.{Corner}
 use Rattle.xc_corners.specs.Laws.{ExchangeMovesTwo}
-use Rattle.xc_corners.specs.WholeNumbers.{whole}
+use Rattle.xc_corners.specs.WholeNumbers.{whole_problem}
 use Rattle.xc_corners.specs.declared.problem.Problem.{Problem}
 use Rattle.xc_pivot.specs.States.{is_row, is_high, HasRow, HasColumn, IsInside, ArePlaces}
-use Rattle.xc_pivot.specs.Steps.{left_place, is_left_high, replaced}
+use Rattle.xc_pivot.specs.Steps.{left_place, is_left_high, places_after_exchange}
 use Rattle.xc_pivot.specs.declared.types.Choice.{Choice}
 use Rattle.xc_pivot.specs.declared.types.Place.{Place}
 use Rattle.xc_pivot.specs.declared.types.Place.TheVariants.{Row, Low, High}
@@ -81,7 +81,7 @@ module _ (problem : Problem) (m n : ℕ) (x : Corner) (places : List Place) (cho
   left = left_place (is_left_high problem choice) choice.entering.column
 
   abbrev new : List Place
-  new = replaced problem choice places
+  new = places_after_exchange problem choice places
 
   pub apart : b ≢ q
   apart e = apart_row_column places q choice.leaving.row choice.entering.column (subst (λ j. HasRow places j choice.leaving.row) e hb) hq
@@ -132,23 +132,23 @@ module _ (problem : Problem) (m n : ℕ) (x : Corner) (places : List Place) (cho
       go (inr e) (inr d) (inr h) = inr (d, e, inr (from_other i (High c) d e h))
 
   abbrev y : Corner
-  y = exchanged (whole problem) x choice.leaving.above b q
+  y = corner_after_exchange (whole_problem problem) x choice.leaving.above b q
 
   entered_high : y.high q ≡ false
-  unfolding exchanged
+  unfolding corner_after_exchange
   entered_high = simp (eq-eqb q q refl)
 
   left_high : y.high b ≡ is_left_high problem choice
-  unfolding exchanged
+  unfolding corner_after_exchange
   left_high = simp (ne_eqb b q apart, eq-eqb b b refl)
 
   basic_told : ExchangeMovesTwo → (j : ℕ) (place : Place) → slice_get new j ≡ Some place → y.basic j ≡ is_row place
   basic_told law j place e = go (cases_eq j q) (cases_eq j b)
     where
       go : ((j ≡ q) ⊎ (j ≢ q)) → ((j ≡ b) ⊎ (j ≢ b)) → y.basic j ≡ is_row place
-      go (inl f) d = ap y.basic f ∙ (law (whole problem) x choice.leaving.above b q).entered ∙ ap is_row (sym (from_q place (subst (λ i. slice_get new i ≡ Some place) f e)))
-      go (inr f) (inl d) = ap y.basic d ∙ (law (whole problem) x choice.leaving.above b q).left apart ∙ sym (left_row (is_left_high problem choice) choice.entering.column) ∙ ap is_row (sym (from_b place (subst (λ i. slice_get new i ≡ Some place) d e)))
-      go (inr f) (inr d) = (law (whole problem) x choice.leaving.above b q).basic j d f ∙ a.basic j place (from_other j place d f e)
+      go (inl f) d = ap y.basic f ∙ (law (whole_problem problem) x choice.leaving.above b q).entered ∙ ap is_row (sym (from_q place (subst (λ i. slice_get new i ≡ Some place) f e)))
+      go (inr f) (inl d) = ap y.basic d ∙ (law (whole_problem problem) x choice.leaving.above b q).left apart ∙ sym (left_row (is_left_high problem choice) choice.entering.column) ∙ ap is_row (sym (from_b place (subst (λ i. slice_get new i ≡ Some place) d e)))
+      go (inr f) (inr d) = (law (whole_problem problem) x choice.leaving.above b q).basic j d f ∙ a.basic j place (from_other j place d f e)
 
   high_told : ExchangeMovesTwo → (j : ℕ) (place : Place) → slice_get new j ≡ Some place → y.high j ≡ is_high place
   high_told law j place e = go (cases_eq j q) (cases_eq j b)
@@ -156,7 +156,7 @@ module _ (problem : Problem) (m n : ℕ) (x : Corner) (places : List Place) (cho
       go : ((j ≡ q) ⊎ (j ≢ q)) → ((j ≡ b) ⊎ (j ≢ b)) → y.high j ≡ is_high place
       go (inl f) d = ap y.high f ∙ entered_high ∙ ap is_high (sym (from_q place (subst (λ i. slice_get new i ≡ Some place) f e)))
       go (inr f) (inl d) = ap y.high d ∙ left_high ∙ sym (left_high_is (is_left_high problem choice) choice.entering.column) ∙ ap is_high (sym (from_b place (subst (λ i. slice_get new i ≡ Some place) d e)))
-      go (inr f) (inr d) = (law (whole problem) x choice.leaving.above b q).high j d f ∙ a.high j place (from_other j place d f e)
+      go (inr f) (inr d) = (law (whole_problem problem) x choice.leaving.above b q).high j d f ∙ a.high j place (from_other j place d f e)
 
   one_row : (i j r : ℕ) → HasRow new i r → HasRow new j r → i ≡ j
   one_row i j r h l = go (row_cases i r h) (row_cases j r l)
@@ -203,7 +203,7 @@ module _ (problem : Problem) (m n : ℕ) (x : Corner) (places : List Place) (cho
       let k : j ≢ b = λ e. omega (arith, row_within places b choice.leaving.row hb, new_count, e) in
       let l : j ≢ q = λ e. omega (arith, column_within places q choice.entering.column hq, new_count, e) in
       let old = a.no_others j (omega (arith, new_count)) in
-      ((law (whole problem) x choice.leaving.above b q).basic j k l ∙ old.0, (law (whole problem) x choice.leaving.above b q).high j k l ∙ old.1)
+      ((law (whole_problem problem) x choice.leaving.above b q).basic j k l ∙ old.0, (law (whole_problem problem) x choice.leaving.above b q).high j k l ∙ old.1)
 
   pub places_next : ExchangeMovesTwo → ArePlaces m n y new
   places_next law = record { basic = basic_told law; high = high_told law; one_row = one_row; one_column = one_column; each_row = each_row; each_column = each_column; no_others = no_others law }
@@ -214,12 +214,12 @@ left_inside m n c false h = h
 
 -- the new places are inside the table
 pub inside_next : (problem : Problem) (m n : ℕ) (places : List Place) (choice : Choice) → choice.leaving.variable < length places → choice.entering.variable < length places → choice.leaving.row < m → choice.entering.column < n
-    → ((j : ℕ) (place : Place) → slice_get places j ≡ Some place → IsInside m n place) → (j : ℕ) (place : Place) → slice_get (replaced problem choice places) j ≡ Some place → IsInside m n place
+    → ((j : ℕ) (place : Place) → slice_get places j ≡ Some place → IsInside m n place) → (j : ℕ) (place : Place) → slice_get (places_after_exchange problem choice places) j ≡ Some place → IsInside m n place
 inside_next problem m n places choice lb lq hr hc old j place e = go (cases_eq j choice.entering.variable) (cases_eq j choice.leaving.variable)
   where
     go : ((j ≡ choice.entering.variable) ⊎ (j ≢ choice.entering.variable)) → ((j ≡ choice.leaving.variable) ⊎ (j ≢ choice.leaving.variable)) → IsInside m n place
     go (inl f) d =
-        let is = written_at (slice_set places choice.leaving.variable (left_place (is_left_high problem choice) choice.entering.column)) choice.entering.variable (Row choice.leaving.row) place (omega (arith, length-set places choice.leaving.variable (left_place (is_left_high problem choice) choice.entering.column))) (subst (λ i. slice_get (replaced problem choice places) i ≡ Some place) f e) in
+        let is = written_at (slice_set places choice.leaving.variable (left_place (is_left_high problem choice) choice.entering.column)) choice.entering.variable (Row choice.leaving.row) place (omega (arith, length-set places choice.leaving.variable (left_place (is_left_high problem choice) choice.entering.column))) (subst (λ i. slice_get (places_after_exchange problem choice places) i ≡ Some place) f e) in
         subst (λ (z : Place). IsInside m n z) (sym is) hr
     go (inr f) (inl d) =
         let there = unwritten_at (slice_set places choice.leaving.variable (left_place (is_left_high problem choice) choice.entering.column)) choice.entering.variable j (Row choice.leaving.row) place f e in
@@ -229,5 +229,5 @@ inside_next problem m n places choice lb lq hr hc old j place e = go (cases_eq j
         let there = unwritten_at (slice_set places choice.leaving.variable (left_place (is_left_high problem choice) choice.entering.column)) choice.entering.variable j (Row choice.leaving.row) place f e in
         old j place (unwritten_at places choice.leaving.variable j (left_place (is_left_high problem choice) choice.entering.column) place d there)
 
-pub replaced_count : (problem : Problem) (choice : Choice) (places : List Place) → length (replaced problem choice places) ≡ length places
+pub replaced_count : (problem : Problem) (choice : Choice) (places : List Place) → length (places_after_exchange problem choice places) ≡ length places
 replaced_count problem choice places = length-set (slice_set places choice.leaving.variable (left_place (is_left_high problem choice) choice.entering.column)) choice.entering.variable (Row choice.leaving.row) ∙ length-set places choice.leaving.variable (left_place (is_left_high problem choice) choice.entering.column)

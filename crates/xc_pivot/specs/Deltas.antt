@@ -2,7 +2,7 @@
 use Rattle.std.specs.Prelude.{◌≡◌, ℕ, Bool, true, false}
 use Rattle.xc_corners.specs.Corners.{low_bound, high_bound}
 use Rattle.xc_corners.specs.Operations.{operation, Gives, part}
-use Rattle.xc_corners.specs.WholeNumbers.{whole}
+use Rattle.xc_corners.specs.WholeNumbers.{whole_problem}
 use Rattle.xc_corners.specs.declared.problem.Problem.{Problem}
 use Rattle.xc_frac.specs.Passes.{Passes}
 use Rattle.xc_frac.specs.declared.delta.Delta.{Delta}
@@ -34,9 +34,10 @@ pub record PassesOne (op : Op) (f g : Bool → Ratio) (w : Wide) : Type 0 where
 abbrev pub ArePartsOf : ℕ → WholeParts → Delta Ratio → Type 0
 ArePartsOf n a d = (c : Bool) → IsOver (of_part d c) (part c a) n
 
--- d is the low bound of variable j, or the high one
+-- d is the low bound of variable j
 abbrev pub IsLowOf : Problem → ℕ → Delta Ratio → Type 0
-IsLowOf problem j d = ArePartsOf (whole problem).unit (low_bound (whole problem) j) d
+IsLowOf problem j d = ArePartsOf (whole_problem problem).unit (low_bound (whole_problem problem) j) d
 
+-- d is its high bound
 abbrev pub IsHighOf : Problem → ℕ → Delta Ratio → Type 0
-IsHighOf problem j d = ArePartsOf (whole problem).unit (high_bound (whole problem) j) d
+IsHighOf problem j d = ArePartsOf (whole_problem problem).unit (high_bound (whole_problem problem) j) d

@@ -13,9 +13,9 @@ use Rattle.xc_model.specs.Ratio.{Ratio, fraction_of}
 use Rattle.xc_pivot.specs.Deltas.{of_part, GivesEach, StaysEach, PassesOne}
 
 -- what a margin is taken of: the real part of a value and the tiny part of its low bound, or the other parts of its high bound and itself
-abbrev pub mixed : Bool → Delta Ratio → Delta Ratio → Delta Ratio
-mixed false limit value = record { real = value.real; tiny = limit.tiny }
-mixed true limit value = record { real = limit.real; tiny = value.tiny }
+abbrev pub mixed_parts : Bool → Delta Ratio → Delta Ratio → Delta Ratio
+mixed_parts false limit value = record { real = value.real; tiny = limit.tiny }
+mixed_parts true limit value = record { real = limit.real; tiny = value.tiny }
 
 -- both parts of one number are greater than those of another
 abbrev pub ExceedsEach : Delta Ratio → Delta Ratio → Type 0
@@ -24,11 +24,11 @@ ExceedsEach one other = IsBelow (fraction_of other.real) (fraction_of one.real) 
 module _ (high : Bool) (limit value : Delta Ratio) where
   -- both margins are positive
   abbrev pub IsApart : Type 0
-  IsApart = ExceedsEach (mixed high limit value) (mixed (not high) limit value)
+  IsApart = ExceedsEach (mixed_parts high limit value) (mixed_parts (not high) limit value)
 
   -- g has the margins
   abbrev pub AreMargins : Delta Ratio → Type 0
-  AreMargins g = GivesEach Sub (of_part (mixed high limit value)) (of_part (mixed (not high) limit value)) g
+  AreMargins g = GivesEach Sub (of_part (mixed_parts high limit value)) (of_part (mixed_parts (not high) limit value)) g
 
   -- q is the quotient of the margins
   pub record IsQuotientOf (q : Ratio) : Type 0 where
@@ -44,7 +44,7 @@ module _ (high : Bool) (limit value : Delta Ratio) where
 
   -- then no subtraction of them passes
   abbrev pub MarginsStay : Type 0
-  MarginsStay = IsApart → StaysEach Sub (of_part (mixed high limit value)) (of_part (mixed (not high) limit value))
+  MarginsStay = IsApart → StaysEach Sub (of_part (mixed_parts high limit value)) (of_part (mixed_parts (not high) limit value))
 
   -- both are positive, and w is the division of the margins, and passes
   pub record PassesDivision (w : Wide) : Type 0 where
@@ -55,7 +55,7 @@ module _ (high : Bool) (limit value : Delta Ratio) where
   -- w is an operation of the margins or their quotient, and passes
   pub record PassesMargins (w : Wide) : Type 0 where
     pub apart : IsApart
-    pub passes : PassesOne Sub (of_part (mixed high limit value)) (of_part (mixed (not high) limit value)) w ⊎ PassesDivision w
+    pub passes : PassesOne Sub (of_part (mixed_parts high limit value)) (of_part (mixed_parts (not high) limit value)) w ⊎ PassesDivision w
 
 -- the lesser of two numbers, where they are there
 abbrev pub IsLesser : Option Ratio → Option Ratio → Option Ratio → Type 0

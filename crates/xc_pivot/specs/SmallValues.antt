@@ -38,6 +38,7 @@ module _ (p : WholeProblem) (x : Corner) (t : Factors) where
   abbrev pub ValuesStay : Ratio → Type 0
   ValuesStay s = (j : ℕ) → j < length p.ranges → ValueStays s j
 
+  -- w is an operation of one of them, and passes
   pub record PassesOneValue (s : Ratio) (w : Wide) : Type 0 where
     pub range : ℕ
     pub is_range : range < length p.ranges

@@ -5,7 +5,7 @@ use Rattle.xc_corners.specs.Corners.{low_bound, high_bound, Corner, Factors, IsS
 use Rattle.xc_corners.specs.Operations.{IsFactor}
 use Rattle.xc_corners.specs.Pairs.{◌≺◌, ◌≼◌, times}
 use Rattle.xc_corners.specs.Problems.{WholeProblem}
-use Rattle.xc_corners.specs.WholeNumbers.{whole}
+use Rattle.xc_corners.specs.WholeNumbers.{whole_problem}
 use Rattle.xc_corners.specs.declared.problem.Problem.{Problem}
 use Rattle.xc_frac.specs.declared.delta.Delta.{Delta}
 use Rattle.xc_model.specs.Parts.{WholeParts}
@@ -31,10 +31,11 @@ is_high (Row r) = false
 is_high (Low c) = false
 is_high (High c) = true
 
--- variable j has row r, or column c
+-- variable j has row r
 abbrev pub HasRow : List Place → ℕ → ℕ → Type 0
 HasRow places j r = slice_get places j ≡ Some (Row r)
 
+-- variable j has column c
 abbrev pub HasColumn : List Place → ℕ → ℕ → Type 0
 HasColumn places j c = (slice_get places j ≡ Some (Low c)) ⊎ (slice_get places j ≡ Some (High c))
 
@@ -73,10 +74,10 @@ pub record IsShaped (problem : Problem) (s : State) : Type 0 where
 
 -- table, values and places are those of corner x with the factors t
 pub record IsAt (problem : Problem) (s : State) (x : Corner) (t : Factors) : Type 0 where
-  pub solved : IsSolvedForm (whole problem) x t
+  pub solved : IsSolvedForm (whole_problem problem) x t
   pub placed : ArePlaces (length problem.rows) (length problem.ranges) x s.places.items
   pub factors : AreFactors s.table s.places.items t
-  pub values : AreValues (whole problem) s.values.items s.places.items x t
+  pub values : AreValues (whole_problem problem) s.values.items s.places.items x t
 
 -- b is the variable that leaves at x, and this is its row
 pub record IsLeaving (p : WholeProblem) (places : List Place) (x : Corner) (t : Factors) (leaving : Leaving) : Type 0 where
@@ -90,7 +91,7 @@ pub record IsEntering (p : WholeProblem) (places : List Place) (x : Corner) (t :
 
 -- none of the variables below n can enter
 abbrev pub NoneEnters : Problem → State → Leaving → ℕ → Type 0
-NoneEnters problem s leaving n = (x : Corner) (t : Factors) → IsAt problem s x t → (k : ℕ) → k < n → ¬ CanEnter (whole problem) x t leaving.above leaving.variable k
+NoneEnters problem s leaving n = (x : Corner) (t : Factors) → IsAt problem s x t → (k : ℕ) → k < n → ¬ CanEnter (whole_problem problem) x t leaving.above leaving.variable k
 
 -- both
 pub record IsChoice (p : WholeProblem) (places : List Place) (x : Corner) (t : Factors) (choice : Choice) : Type 0 where
@@ -109,4 +110,4 @@ IsPastOf (Some true) l a h = h ≺ a
 
 -- the same of the bounds of j, for a value over w times the unit
 abbrev pub IsSideOf : Option Bool → Problem → ℕ → ℕ → WholeParts → Type 0
-IsSideOf side problem j w a = IsPastOf side (times (pos w) (low_bound (whole problem) j)) a (times (pos w) (high_bound (whole problem) j))
+IsSideOf side problem j w a = IsPastOf side (times (pos w) (low_bound (whole_problem problem) j)) a (times (pos w) (high_bound (whole_problem problem) j))

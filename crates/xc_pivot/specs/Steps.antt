@@ -1,11 +1,11 @@
 -- What a step to the next corner makes of the values.
 use Rattle.std.specs.Prelude.{◌≡◌, ◌≢◌, ◌⊎◌, ◌<◌, ◌&&◌, not, true, false, pos, ℕ, Bool, List, Some, slice_get, slice_set}
-use Rattle.xc_corners.specs.Choices.{is_same_pair, exchanged}
+use Rattle.xc_corners.specs.Choices.{is_same_pair, corner_after_exchange}
 use Rattle.xc_corners.specs.Corners.{low_bound, high_bound, Corner, Factors}
 use Rattle.xc_corners.specs.Operations.{Gives, IsFactor, IsValuePart, IsGap, IsStep, IsMove, IsBasic, IsOther, StandsInExchange, StandsInStep, part, passed_bound}
 use Rattle.xc_corners.specs.Problems.{WholeProblem}
-use Rattle.xc_corners.specs.Tables.{pivoted}
-use Rattle.xc_corners.specs.WholeNumbers.{whole}
+use Rattle.xc_corners.specs.Tables.{factors_after_exchange}
+use Rattle.xc_corners.specs.WholeNumbers.{whole_problem}
 use Rattle.xc_corners.specs.declared.problem.Problem.{Problem}
 use Rattle.xc_frac.specs.Passes.{Passes}
 use Rattle.xc_frac.specs.declared.delta.Delta.{Delta}
@@ -79,7 +79,7 @@ module _ (p : WholeProblem) (x : Corner) (t : Factors) (choice : Choice) where
 
 -- d is the bound that the leaving variable passed
 abbrev pub IsPassedBound : Problem → Choice → Delta Ratio → Type 0
-IsPassedBound problem choice d = ArePartsOf (whole problem).unit (passed_bound (whole problem) choice.leaving.above choice.leaving.variable) d
+IsPassedBound problem choice d = ArePartsOf (whole_problem problem).unit (passed_bound (whole_problem problem) choice.leaving.above choice.leaving.variable) d
 
 -- where the leaving variable stands afterwards
 abbrev pub left_place : Bool → ℕ → Place
@@ -88,11 +88,11 @@ left_place false column = Low column
 
 -- it is on its high side
 abbrev pub is_left_high : Problem → Choice → Bool
-is_left_high problem choice = choice.leaving.above && not (is_same_pair (low_bound (whole problem) choice.leaving.variable) (high_bound (whole problem) choice.leaving.variable))
+is_left_high problem choice = choice.leaving.above && not (is_same_pair (low_bound (whole_problem problem) choice.leaving.variable) (high_bound (whole_problem problem) choice.leaving.variable))
 
 -- the places afterwards
-abbrev pub replaced : Problem → Choice → List Place → List Place
-replaced problem choice places = slice_set (slice_set places choice.leaving.variable (left_place (is_left_high problem choice) choice.entering.column)) choice.entering.variable (Row choice.leaving.row)
+abbrev pub places_after_exchange : Problem → Choice → List Place → List Place
+places_after_exchange problem choice places = slice_set (slice_set places choice.leaving.variable (left_place (is_left_high problem choice) choice.entering.column)) choice.entering.variable (Row choice.leaving.row)
 
 -- what a choice says without the corner: the row of the leaving variable, the column of the entering one, and that their factor is not 0
 pub record IsChosen (s : State) (choice : Choice) : Type 0 where
@@ -102,4 +102,4 @@ pub record IsChosen (s : State) (choice : Choice) : Type 0 where
 
 -- the state is that of the next corner
 abbrev pub IsAtNext : Problem → State → Corner → Factors → Choice → Type 0
-IsAtNext problem s x t choice = IsAt problem s (exchanged (whole problem) x choice.leaving.above choice.leaving.variable choice.entering.variable) (pivoted t choice.leaving.variable choice.entering.variable)
+IsAtNext problem s x t choice = IsAt problem s (corner_after_exchange (whole_problem problem) x choice.leaving.above choice.leaving.variable choice.entering.variable) (factors_after_exchange t choice.leaving.variable choice.entering.variable)

@@ -6,7 +6,7 @@ use Rattle.std.specs.Ordering.{nat_cmp}
 use Rattle.xc_corners.specs.Choices.{IsReached, IsReachedBy, IsLast}
 use Rattle.xc_corners.specs.Corners.{Corner, Factors, CornerLists, corner_of}
 use Rattle.xc_corners.specs.Operations.{PassesAt}
-use Rattle.xc_corners.specs.WholeNumbers.{whole}
+use Rattle.xc_corners.specs.WholeNumbers.{whole_problem}
 use Rattle.xc_corners.specs.declared.problem.Problem.{Problem}
 use Rattle.xc_frac.specs.declared.wide.Wide.{Wide}
 use Rattle.xc_pivot.specs.States.{ArePlaces, IsShaped, IsAt, HasNoChoice}
@@ -19,15 +19,15 @@ use Rattle.xc_pivot.specs.declared.types.Walk.TheVariants.{Last, TooWide}
 
 -- no operation passes at a corner of the run
 abbrev pub NothingPasses : Problem → Type 0
-NothingPasses problem = (x : Corner) (w : Wide) → IsReached (whole problem) x → ¬ PassesAt problem x w
+NothingPasses problem = (x : Corner) (w : Wide) → IsReached (whole_problem problem) x → ¬ PassesAt problem x w
 
 -- the lists tell the last corner of the run
 abbrev pub IsLastCorner : Problem → CornerLists → Type 0
-IsLastCorner problem lists = IsLast (whole problem) (corner_of lists)
+IsLastCorner problem lists = IsLast (whole_problem problem) (corner_of lists)
 
 -- the lists tell a corner of the run, at which w passes
 abbrev pub IsTooWideAt : Problem → CornerLists → Wide → Type 0
-IsTooWideAt problem lists w = IsReached (whole problem) (corner_of lists) × PassesAt problem (corner_of lists) w
+IsTooWideAt problem lists w = IsReached (whole_problem problem) (corner_of lists) × PassesAt problem (corner_of lists) w
 
 -- the lists tell the corner of the places
 abbrev pub TellsCorner : List Place → CornerLists → Type 0
@@ -49,15 +49,15 @@ pub record EndsAtLast (problem : Problem) (s : State) : Type 0 where
   pub corner : Corner
   pub factors : Factors
   pub at : IsAt problem s corner factors
-  pub none : HasNoChoice (whole problem) corner factors
-  pub last : IsLast (whole problem) corner
+  pub none : HasNoChoice (whole_problem problem) corner factors
+  pub last : IsLast (whole_problem problem) corner
   pub nothing : NothingPasses problem
 
 -- the places tell a corner of the run at which w passes
 pub record EndsTooWide (problem : Problem) (places : List Place) (w : Wide) : Type 0 where
   pub corner : Corner
   pub placed : ArePlaces (length problem.rows) (length problem.ranges) corner places
-  pub reached : IsReached (whole problem) corner
+  pub reached : IsReached (whole_problem problem) corner
   pub passes : PassesAt problem corner w
 
 -- the answer is the corner of the places, with the operation
@@ -71,8 +71,8 @@ pub record AtTurn (problem : Problem) (turns : ℕ) (s : State) : Type 0 where
   pub corner : Corner
   pub factors : Factors
   pub at : IsAt problem s corner factors
-  pub reached : IsReachedBy (whole problem) turns corner
-  pub before : (k : ℕ) (y : Corner) (w : Wide) → k < turns → IsReachedBy (whole problem) k y → ¬ PassesAt problem y w
+  pub reached : IsReachedBy (whole_problem problem) turns corner
+  pub before : (k : ℕ) (y : Corner) (w : Wide) → k < turns → IsReachedBy (whole_problem problem) k y → ¬ PassesAt problem y w
 
 -- the list has, ascending, the numbers below n whose places pass the test
 pub record IsListOf (test : Place → Bool) (places : List Place) (n : ℕ) (list : List ℕ) : Type 0 where

@@ -45,8 +45,8 @@ fn low_pair(end: End<Frac>) -> Delta<Frac>
     ensures tiny { IsOver result.tiny (if is_open end then pos 1 else pos 0) 1 }
 {
     match end {
-        End::Closed(value) => beside(value, ratio(0, 1)),
-        End::Open(value) => beside(value, ratio(1, 1)),
+        End::Closed(value) => delta_of(value, ratio(0, 1)),
+        End::Open(value) => delta_of(value, ratio(1, 1)),
     }
 }
 
@@ -56,13 +56,13 @@ fn high_pair(end: End<Frac>) -> Delta<Frac>
     ensures tiny { IsOver result.tiny (if is_open end then negsuc 0 else pos 0) 1 }
 {
     match end {
-        End::Closed(value) => beside(value, ratio(0, 1)),
-        End::Open(value) => beside(value, ratio(-1, 1)),
+        End::Closed(value) => delta_of(value, ratio(0, 1)),
+        End::Open(value) => delta_of(value, ratio(-1, 1)),
     }
 }
 
 // A value and a tiny part.
-fn beside(real: Frac, tiny: Frac) -> Delta<Frac>
+fn delta_of(real: Frac, tiny: Frac) -> Delta<Frac>
     ensures real { result.real ≡ real }
     ensures tiny { result.tiny ≡ tiny }
 {
@@ -74,7 +74,7 @@ pub fn zero() -> Delta<Frac>
     ensures real { IsOver result.real (pos 0) 1 }
     ensures tiny { IsOver result.tiny (pos 0) 1 }
 {
-    beside(ratio(0, 1), ratio(0, 1))
+    delta_of(ratio(0, 1), ratio(0, 1))
 }
 
 /// Whether a number is less than another.

@@ -3,7 +3,7 @@ ghost use Rattle.std.specs.Prelude.{◌≡◌, ◌≢◌, ◌↔◌, IsTrue, ◌
 ghost use Rattle.xc_corners.specs.Choices.{CanEnter, IsFeasible};
 ghost use Rattle.xc_corners.specs.Corners.{low_bound, high_bound, Corner, Factors, IsOutside, IsWithin};
 ghost use Rattle.xc_corners.specs.Problems.{IsProblem, IsSmallProblem};
-ghost use Rattle.xc_corners.specs.WholeNumbers.{whole};
+ghost use Rattle.xc_corners.specs.WholeNumbers.{whole_problem};
 ghost use Rattle.xc_model.specs.Parts.{WholeParts};
 ghost use Rattle.xc_pivot.specs.Deltas.{ArePartsOf};
 ghost use Rattle.xc_pivot.specs.States.{IsShaped, IsAt, IsLeaving, IsEntering, IsChoice, HasNoChoice, HasRow, HasColumn, IsSideOf, IsPastOf};
@@ -20,34 +20,34 @@ pub fn choice(problem: &Problem, state: &State) -> Option<Choice>
     requires problem { IsProblem problem.now }
     requires shaped { IsShaped problem.now state.now }
     ensures some { (x : Corner) (t : Factors) → IsAt problem.now state.now x t
-        → IfSome result (IsChoice (whole problem.now) state.now.places.items x t) }
+        → IfSome result (IsChoice (whole_problem problem.now) state.now.places.items x t) }
     ensures none { (x : Corner) (t : Factors) → IsAt problem.now state.now x t
-        → IfNone result (HasNoChoice (whole problem.now) x t) }
+        → IfNone result (HasNoChoice (whole_problem problem.now) x t) }
 {
     problems_are_whole();
-    let Some(leaving) = leaving(problem, state) else {
+    let Some(leaving) = leaving_variable(problem, state) else {
         return None;
     };
-    let Some(entering) = entering(problem, state, leaving) else {
+    let Some(entering) = entering_variable(problem, state, leaving) else {
         return None;
     };
     Some(Choice { leaving, entering })
 }
 
 /// The least basic variable that is outside its bounds.
-pub fn leaving(problem: &Problem, state: &State) -> Option<Leaving>
+pub fn leaving_variable(problem: &Problem, state: &State) -> Option<Leaving>
     requires small { IsSmallProblem problem.now }
     requires problem { IsProblem problem.now }
     requires shaped { IsShaped problem.now state.now }
     ensures row { IfSome result (λ l. HasRow state.now.places.items l.variable l.row) }
     ensures some { (x : Corner) (t : Factors) → IsAt problem.now state.now x t
-        → IfSome result (IsLeaving (whole problem.now) state.now.places.items x t) }
+        → IfSome result (IsLeaving (whole_problem problem.now) state.now.places.items x t) }
     ensures none { (x : Corner) (t : Factors) → IsAt problem.now state.now x t
-        → IfNone result (IsFeasible (whole problem.now) x t) }
+        → IfNone result (IsFeasible (whole_problem problem.now) x t) }
 {
     problems_are_whole();
     for variable in 0..state.places.len() as u32 {
-        if let Some(leaving) = leaves(problem, state, variable) {
+        if let Some(leaving) = leaving_at(problem, state, variable) {
             return Some(leaving);
         }
     }
@@ -55,16 +55,16 @@ pub fn leaving(problem: &Problem, state: &State) -> Option<Leaving>
 }
 
 // Whether this variable is basic and outside its bounds.
-fn leaves(problem: &Problem, state: &State, variable: u32) -> Option<Leaving>
+fn leaving_at(problem: &Problem, state: &State, variable: u32) -> Option<Leaving>
     requires problem { IsProblem problem.now }
     requires shaped { IsShaped problem.now state.now }
     requires variable { variable < length state.now.places.items }
     ensures variable { IfSome result (λ l. l.variable ≡ variable) }
     ensures row { IfSome result (λ l. HasRow state.now.places.items variable l.row) }
     ensures some { (x : Corner) (t : Factors) → IsAt problem.now state.now x t
-        → IfSome result (λ l. IsOutside (whole problem.now) x t l.above variable) }
+        → IfSome result (λ l. IsOutside (whole_problem problem.now) x t l.above variable) }
     ensures none { (x : Corner) (t : Factors) → IsAt problem.now state.now x t
-        → IfNone result (x.basic variable ≡ true → IsWithin (whole problem.now) x t variable) }
+        → IfNone result (x.basic variable ≡ true → IsWithin (whole_problem problem.now) x t variable) }
 {
     let Place::Row(row) = state.places[variable as usize] else {
         return None;
@@ -82,7 +82,7 @@ fn leaves(problem: &Problem, state: &State, variable: u32) -> Option<Leaving>
 // Which bound of a variable the value is past.
 fn side_of(problem: &Problem, variable: u32, value: Delta<Frac>) -> Option<bool>
     requires problem { IsProblem problem.now }
-    ensures side { (w : ℕ) (a : WholeParts) → 0 < w → ArePartsOf (w * (whole problem.now).unit) a value
+    ensures side { (w : ℕ) (a : WholeParts) → 0 < w → ArePartsOf (w * (whole_problem problem.now).unit) a value
         → IsSideOf result problem.now variable w a }
 {
     let low = low_of(problem, variable);
@@ -105,20 +105,20 @@ fn past_side(value: &Delta<Frac>, low: &Delta<Frac>, high: &Delta<Frac>) -> Opti
 }
 
 // The least variable that can enter.
-fn entering(problem: &Problem, state: &State, leaving: Leaving) -> Option<Entering>
+fn entering_variable(problem: &Problem, state: &State, leaving: Leaving) -> Option<Entering>
     requires small { IsSmallProblem problem.now }
     requires problem { IsProblem problem.now }
     requires shaped { IsShaped problem.now state.now }
     requires row { HasRow state.now.places.items leaving.variable leaving.row }
     ensures some { (x : Corner) (t : Factors) → IsAt problem.now state.now x t
-        → IfSome result (IsEntering (whole problem.now) state.now.places.items x t leaving) }
+        → IfSome result (IsEntering (whole_problem problem.now) state.now.places.items x t leaving) }
     ensures none { (x : Corner) (t : Factors) → IsAt problem.now state.now x t
         → IfNone result ((q : ℕ) → q < length state.now.places.items
-        → ¬ CanEnter (whole problem.now) x t leaving.above leaving.variable q) }
+        → ¬ CanEnter (whole_problem problem.now) x t leaving.above leaving.variable q) }
 {
     problems_are_whole();
     for variable in 0..state.places.len() as u32 {
-        if let Some(column) = enters(problem, state, leaving, variable) {
+        if let Some(column) = entering_column(problem, state, leaving, variable) {
             return Some(Entering { variable, column });
         }
     }
@@ -126,16 +126,16 @@ fn entering(problem: &Problem, state: &State, leaving: Leaving) -> Option<Enteri
 }
 
 // The column of this variable, if it can enter.
-fn enters(problem: &Problem, state: &State, leaving: Leaving, variable: u32) -> Option<u32>
+fn entering_column(problem: &Problem, state: &State, leaving: Leaving, variable: u32) -> Option<u32>
     requires problem { IsProblem problem.now }
     requires shaped { IsShaped problem.now state.now }
     requires row { HasRow state.now.places.items leaving.variable leaving.row }
     requires variable { variable < length state.now.places.items }
     ensures column { IfSome result (HasColumn state.now.places.items variable) }
     ensures some { (x : Corner) (t : Factors) → IsAt problem.now state.now x t
-        → IfSome result (λ c. CanEnter (whole problem.now) x t leaving.above leaving.variable variable) }
+        → IfSome result (λ c. CanEnter (whole_problem problem.now) x t leaving.above leaving.variable variable) }
     ensures none { (x : Corner) (t : Factors) → IsAt problem.now state.now x t
-        → IfNone result (¬ CanEnter (whole problem.now) x t leaving.above leaving.variable variable) }
+        → IfNone result (¬ CanEnter (whole_problem problem.now) x t leaving.above leaving.variable variable) }
 {
     match state.places[variable as usize] {
         Place::Row(_) => None,
@@ -159,9 +159,9 @@ fn can_enter(
     requires column { HasColumn state.now.places.items variable column }
     ensures is { IfSome result (λ c. c ≡ column) }
     ensures some { (x : Corner) (t : Factors) → IsAt problem.now state.now x t → x.high variable ≡ is_high
-        → IfSome result (λ c. CanEnter (whole problem.now) x t leaving.above leaving.variable variable) }
+        → IfSome result (λ c. CanEnter (whole_problem problem.now) x t leaving.above leaving.variable variable) }
     ensures none { (x : Corner) (t : Factors) → IsAt problem.now state.now x t → x.high variable ≡ is_high
-        → IfNone result (¬ CanEnter (whole problem.now) x t leaving.above leaving.variable variable) }
+        → IfNone result (¬ CanEnter (whole_problem problem.now) x t leaving.above leaving.variable variable) }
 {
     if !is_free(problem, variable) {
         return None;
@@ -179,7 +179,7 @@ fn can_enter(
 /// Whether the two bounds of a variable are different.
 pub fn is_free(problem: &Problem, variable: u32) -> bool
     requires problem { IsProblem problem.now }
-    ensures free { IsTrue result ↔ (low_bound (whole problem.now) variable ≢ high_bound (whole problem.now) variable) }
+    ensures free { IsTrue result ↔ (low_bound (whole_problem problem.now) variable ≢ high_bound (whole_problem problem.now) variable) }
 {
     problems_are_whole();
     is_below(&low_of(problem, variable), &high_of(problem, variable))

@@ -1,9 +1,9 @@
 // The factors and values of the first corner.
 ghost use Rattle.std.specs.Prelude.{◌≡◌, ◌+◌, ◌<◌, ◌^◌, ℕ, Bool, IfOk, IfErr, OnOk, length, All};
-ghost use Rattle.xc_corners.specs.Choices.{first};
+ghost use Rattle.xc_corners.specs.Choices.{first_corner};
 ghost use Rattle.xc_corners.specs.Operations.{IsZero, IsLowSum, entries_of};
 ghost use Rattle.xc_corners.specs.Tables.{first_factors};
-ghost use Rattle.xc_corners.specs.WholeNumbers.{whole};
+ghost use Rattle.xc_corners.specs.WholeNumbers.{whole_problem};
 ghost use Rattle.xc_frac.specs.declared.wide.Wide.{Wide};
 ghost use Rattle.xc_pivot.specs.States.{IsShaped, IsAt};
 ghost use Rattle.xc_corners.specs.Problems.{IsProblem, IsSmallProblem};
@@ -150,7 +150,7 @@ pub fn fill(problem: &Problem, state: &mut State) -> Result<(), Wide>
     requires places { AreFirstPlaces (length problem.now.ranges) state.old.places.items }
     ensures places { state.new.places ≡ state.old.places }
     ensures shaped { OnOk result (IsShaped problem.now state.new) }
-    ensures at { OnOk result (IsAt problem.now state.new (first (whole problem.now)) (first_factors (whole problem.now))) }
+    ensures at { OnOk result (IsAt problem.now state.new (first_corner (whole_problem problem.now)) (first_factors (whole_problem problem.now))) }
     ensures fits { OnOk result ((w : Wide) → ¬ PassesFirst problem.now w) }
     ensures passes { IfErr result (PassesFirst problem.now) }
 {

@@ -3,11 +3,11 @@ ghost use Rattle.std.specs.Prelude.{◌≡◌, ◌↔◌, ◌+◌, ◌*◌, ◌<
 ghost use Rattle.xc_corners.specs.Corners.{Corner, Factors, value};
 ghost use Rattle.xc_corners.specs.Operations.{passed_bound};
 ghost use Rattle.xc_corners.specs.Problems.{IsProblem, IsSmallProblem};
-ghost use Rattle.xc_corners.specs.WholeNumbers.{whole};
+ghost use Rattle.xc_corners.specs.WholeNumbers.{whole_problem};
 ghost use Rattle.xc_model.specs.Fraction.{IsBelow};
 ghost use Rattle.xc_model.specs.Ratio.{fraction_of};
 ghost use Rattle.xc_pivot.specs.Deltas.{of_part, ArePartsOf};
-ghost use Rattle.xc_pivot.specs.Quotients.{mixed, ExceedsEach, IsAnswerOf, MarginsStay, PassesMargins, IsAnswerAt, QuotientStays, PassesQuotient, IsLesser, IsLeastOf, SeenStay, PassesSmall, with_seen, below_seen};
+ghost use Rattle.xc_pivot.specs.Quotients.{mixed_parts, ExceedsEach, IsAnswerOf, MarginsStay, PassesMargins, IsAnswerAt, QuotientStays, PassesQuotient, IsLesser, IsLeastOf, SeenStay, PassesSmall, with_seen, below_seen};
 ghost use Rattle.xc_pivot.specs.States.{IsShaped, IsAt};
 
 use crate::bounds::{high_of, low_of};
@@ -24,7 +24,7 @@ pub fn value_of(problem: &Problem, state: &State, variable: u32) -> Delta<Frac>
     requires shaped { IsShaped problem.now state.now }
     requires variable { variable < length state.now.places.items }
     ensures value { (x : Corner) (t : Factors) → IsAt problem.now state.now x t
-        → ArePartsOf (t.over * (whole problem.now).unit) (value (whole problem.now) x t variable) result }
+        → ArePartsOf (t.over * (whole_problem problem.now).unit) (value (whole_problem problem.now) x t variable) result }
 {
     values_at_corners();
     match state.places[variable as usize] {
@@ -37,7 +37,7 @@ pub fn value_of(problem: &Problem, state: &State, variable: u32) -> Delta<Frac>
 // Its low bound (false), or its high one.
 fn limit_of(problem: &Problem, high: bool, variable: u32) -> Delta<Frac>
     requires problem { IsProblem problem.now }
-    ensures limit { ArePartsOf (whole problem.now).unit (passed_bound (whole problem.now) high variable) result }
+    ensures limit { ArePartsOf (whole_problem problem.now).unit (passed_bound (whole_problem problem.now) high variable) result }
 {
     if high {
         return high_of(problem, variable);
@@ -47,8 +47,8 @@ fn limit_of(problem: &Problem, high: bool, variable: u32) -> Delta<Frac>
 
 // The real part of a value and the tiny part of its low bound (false), or the other parts of a high bound and a
 // value.
-fn mixed(high: bool, limit: &Delta<Frac>, value: &Delta<Frac>) -> Delta<Frac>
-    ensures { result ≡ mixed high limit.now value.now }
+fn mixed_parts(high: bool, limit: &Delta<Frac>, value: &Delta<Frac>) -> Delta<Frac>
+    ensures { result ≡ mixed_parts high limit.now value.now }
 {
     if high {
         Delta {
@@ -89,8 +89,8 @@ fn quotient_of(high: bool, limit: &Delta<Frac>, value: &Delta<Frac>) -> Result<O
     ensures stays { OnOk result (MarginsStay high limit.now value.now) }
     ensures passes { IfErr result (PassesMargins high limit.now value.now) }
 {
-    let first = mixed(high, limit, value);
-    let second = mixed(!high, limit, value);
+    let first = mixed_parts(high, limit, value);
+    let second = mixed_parts(!high, limit, value);
     if !both_exceed(&first, &second) {
         return Ok(None);
     }
@@ -115,11 +115,11 @@ fn quotient_at(
     requires shaped { IsShaped problem.now state.now }
     requires variable { variable < length state.now.places.items }
     ensures is { (x : Corner) (t : Factors) → IsAt problem.now state.now x t
-        → IfOk result (IsAnswerAt (whole problem.now) x t high variable) }
+        → IfOk result (IsAnswerAt (whole_problem problem.now) x t high variable) }
     ensures stays { (x : Corner) (t : Factors) → IsAt problem.now state.now x t
-        → OnOk result (QuotientStays (whole problem.now) x t high variable) }
+        → OnOk result (QuotientStays (whole_problem problem.now) x t high variable) }
     ensures passes { (x : Corner) (t : Factors) → IsAt problem.now state.now x t
-        → IfErr result (PassesQuotient (whole problem.now) x t high variable) }
+        → IfErr result (PassesQuotient (whole_problem problem.now) x t high variable) }
 {
     problems_are_whole();
     let limit = limit_of(problem, high, variable);
@@ -152,11 +152,11 @@ fn with_quotient(
     requires small { IsSmallProblem problem.now }
     requires shaped { IsShaped problem.now state.now }
     requires variable { variable < length problem.now.ranges }
-    ensures is { (x : Corner) (t : Factors) (seen : Bool → ℕ → Bool) → IsAt problem.now state.now x t → IsLeastOf (whole problem.now) x t seen least
-        → IfOk result (IsLeastOf (whole problem.now) x t (with_seen seen high variable)) }
-    ensures stays { (x : Corner) (t : Factors) (seen : Bool → ℕ → Bool) → IsAt problem.now state.now x t → SeenStay (whole problem.now) x t seen
-        → OnOk result (SeenStay (whole problem.now) x t (with_seen seen high variable)) }
-    ensures passes { (x : Corner) (t : Factors) → IsAt problem.now state.now x t → IfErr result (PassesSmall (whole problem.now) x t) }
+    ensures is { (x : Corner) (t : Factors) (seen : Bool → ℕ → Bool) → IsAt problem.now state.now x t → IsLeastOf (whole_problem problem.now) x t seen least
+        → IfOk result (IsLeastOf (whole_problem problem.now) x t (with_seen seen high variable)) }
+    ensures stays { (x : Corner) (t : Factors) (seen : Bool → ℕ → Bool) → IsAt problem.now state.now x t → SeenStay (whole_problem problem.now) x t seen
+        → OnOk result (SeenStay (whole_problem problem.now) x t (with_seen seen high variable)) }
+    ensures passes { (x : Corner) (t : Factors) → IsAt problem.now state.now x t → IfErr result (PassesSmall (whole_problem problem.now) x t) }
 {
     problems_are_whole();
     match quotient_at(problem, state, high, variable) {
@@ -171,10 +171,10 @@ pub fn least_quotient(problem: &Problem, state: &State) -> Result<Option<Frac>, 
     requires small { IsSmallProblem problem.now }
     requires shaped { IsShaped problem.now state.now }
     ensures is { (x : Corner) (t : Factors) → IsAt problem.now state.now x t
-        → IfOk result (IsLeastOf (whole problem.now) x t (below_seen (length problem.now.ranges))) }
+        → IfOk result (IsLeastOf (whole_problem problem.now) x t (below_seen (length problem.now.ranges))) }
     ensures stays { (x : Corner) (t : Factors) → IsAt problem.now state.now x t
-        → OnOk result (SeenStay (whole problem.now) x t (below_seen (length problem.now.ranges))) }
-    ensures passes { (x : Corner) (t : Factors) → IsAt problem.now state.now x t → IfErr result (PassesSmall (whole problem.now) x t) }
+        → OnOk result (SeenStay (whole_problem problem.now) x t (below_seen (length problem.now.ranges))) }
+    ensures passes { (x : Corner) (t : Factors) → IsAt problem.now state.now x t → IfErr result (PassesSmall (whole_problem problem.now) x t) }
 {
     let mut least = None;
     for variable in 0..problem.ranges.as_slice().len() as u32 {
@@ -197,11 +197,11 @@ fn with_both(
     requires small { IsSmallProblem problem.now }
     requires shaped { IsShaped problem.now state.now }
     requires variable { variable < length problem.now.ranges }
-    ensures is { (x : Corner) (t : Factors) → IsAt problem.now state.now x t → IsLeastOf (whole problem.now) x t (below_seen variable) least
-        → IfOk result (IsLeastOf (whole problem.now) x t (below_seen (variable + 1))) }
-    ensures stays { (x : Corner) (t : Factors) → IsAt problem.now state.now x t → SeenStay (whole problem.now) x t (below_seen variable)
-        → OnOk result (SeenStay (whole problem.now) x t (below_seen (variable + 1))) }
-    ensures passes { (x : Corner) (t : Factors) → IsAt problem.now state.now x t → IfErr result (PassesSmall (whole problem.now) x t) }
+    ensures is { (x : Corner) (t : Factors) → IsAt problem.now state.now x t → IsLeastOf (whole_problem problem.now) x t (below_seen variable) least
+        → IfOk result (IsLeastOf (whole_problem problem.now) x t (below_seen (variable + 1))) }
+    ensures stays { (x : Corner) (t : Factors) → IsAt problem.now state.now x t → SeenStay (whole_problem problem.now) x t (below_seen variable)
+        → OnOk result (SeenStay (whole_problem problem.now) x t (below_seen (variable + 1))) }
+    ensures passes { (x : Corner) (t : Factors) → IsAt problem.now state.now x t → IfErr result (PassesSmall (whole_problem problem.now) x t) }
 {
     match with_quotient(problem, state, false, variable, least) {
         Ok(low) => with_quotient(problem, state, true, variable, low),

@@ -1,9 +1,9 @@
 // The refutation of a conflict, read off the row of the variable that cannot come back.
 ghost use Rattle.std.specs.Prelude.{◌≡◌, ◌≢◌, ◌↔◌, ◌+◌, ◌<◌, ◌++◌, ◌∷◌, [], ℕ, ℤ, pos, ◌<ℤ◌, if◌then◌else◌, IsTrue, IfOk, OnOk, length};
-ghost use Rattle.xc_corners.specs.Conflicts.{turned, multiplier, IsSome, IsPositive, AreLinesOf, AreOfConflict};
+ghost use Rattle.xc_corners.specs.Conflicts.{opposite_if, multiplier, IsNonzero, IsPositive, AreLinesOf, AreOfConflict};
 ghost use Rattle.xc_corners.specs.Corners.{Corner, Factors};
 ghost use Rattle.xc_corners.specs.Problems.{IsSmallProblem};
-ghost use Rattle.xc_corners.specs.WholeNumbers.{whole};
+ghost use Rattle.xc_corners.specs.WholeNumbers.{whole_problem};
 ghost use Rattle.xc_model.specs.Ratio.{IsOver};
 ghost use Rattle.xc_pivot.specs.States.{IsShaped, IsAt, HasRow};
 
@@ -15,8 +15,8 @@ use xc_frac::{Frac, ratio};
 use xc_lists::{Items, Memory};
 
 // A number, or its negative.
-fn signed(is_turned: bool, number: Frac) -> Frac
-    ensures { (n : ℤ) (d : ℕ) → IsOver number n d → IsOver result (turned is_turned n) d }
+fn number_with_sign(is_turned: bool, number: Frac) -> Frac
+    ensures { (n : ℤ) (d : ℕ) → IsOver number n d → IsOver result (opposite_if is_turned n) d }
 {
     if is_turned {
         return number.neg();
@@ -26,11 +26,11 @@ fn signed(is_turned: bool, number: Frac) -> Frac
 
 // How often a basic variable counts: once where it is the one that cannot come back.
 fn own_count(leaving: Leaving, variable: u32) -> Frac
-    ensures own { variable ≡ leaving.variable → IsOver result (turned leaving.above (pos 1)) 1 }
+    ensures own { variable ≡ leaving.variable → IsOver result (opposite_if leaving.above (pos 1)) 1 }
     ensures other { variable ≢ leaving.variable → IsOver result (pos 0) 1 }
 {
     if variable == leaving.variable {
-        return signed(leaving.above, ratio(1, 1));
+        return number_with_sign(leaving.above, ratio(1, 1));
     }
     ratio(0, 1)
 }
@@ -45,8 +45,14 @@ fn count_of(problem: &Problem, state: &State, leaving: Leaving, variable: u32) -
 {
     match state.places[variable as usize] {
         Place::Row(_) => own_count(leaving, variable),
-        Place::Low(column) => signed(!leaving.above, state.table.entry(leaving.row, column)),
-        Place::High(column) => signed(!leaving.above, state.table.entry(leaving.row, column)),
+        Place::Low(column) => number_with_sign(
+            !leaving.above,
+            state.table.entry(leaving.row, column),
+        ),
+        Place::High(column) => number_with_sign(
+            !leaving.above,
+            state.table.entry(leaving.row, column),
+        ),
     }
 }
 
@@ -56,7 +62,7 @@ fn is_positive(number: Frac) -> bool
     helps(true, true, number)
 }
 
-fn is_some(number: Frac) -> bool
+fn is_nonzero(number: Frac) -> bool
     ensures { (n : ℤ) (d : ℕ) → IsOver number n d → IsTrue result ↔ (n ≢ pos 0) }
 {
     if helps(true, true, number) {
@@ -66,7 +72,7 @@ fn is_some(number: Frac) -> bool
 }
 
 // Puts a number with its multiplier into the list, or not.
-fn note(
+fn push_multiplier_if(
     list: &mut Vec<(u32, Frac)>,
     number: u32,
     multiplier: Frac,
@@ -93,11 +99,11 @@ fn list_ends(
     requires row { HasRow state.now.places.items leaving.variable leaving.row }
     requires list { list.items ≡ [] }
     ensures { (x : Corner) (t : Factors) → IsAt problem.now state.now x t
-        → IfOk result (λ lines. AreLinesOf (length problem.now.ranges) (λ j. turned is_turned (multiplier x t leaving.above leaving.variable j)) IsPositive t.over lines.items) }
+        → IfOk result (λ lines. AreLinesOf (length problem.now.ranges) (λ j. opposite_if is_turned (multiplier x t leaving.above leaving.variable j)) IsPositive t.over lines.items) }
 {
     for variable in 0..problem.ranges.as_slice().len() as u32 {
-        let count = signed(is_turned, count_of(problem, state, leaving, variable));
-        note(&mut list, variable, count, is_positive(count))?;
+        let count = number_with_sign(is_turned, count_of(problem, state, leaving, variable));
+        push_multiplier_if(&mut list, variable, count, is_positive(count))?;
     }
     Ok(list)
 }
@@ -114,12 +120,12 @@ fn list_rows(
     requires row { HasRow state.now.places.items leaving.variable leaving.row }
     requires list { list.items ≡ [] }
     ensures { (x : Corner) (t : Factors) → IsAt problem.now state.now x t
-        → IfOk result (λ lines. AreLinesOf (length problem.now.rows) (λ i. multiplier x t leaving.above leaving.variable (length problem.now.ranges + i)) IsSome t.over lines.items) }
+        → IfOk result (λ lines. AreLinesOf (length problem.now.rows) (λ i. multiplier x t leaving.above leaving.variable (length problem.now.ranges + i)) IsNonzero t.over lines.items) }
 {
     let first = problem.ranges.as_slice().len() as u32;
     for row in 0..problem.rows.as_slice().len() as u32 {
         let count = count_of(problem, state, leaving, first + row);
-        note(&mut list, row, count, is_some(count))?;
+        push_multiplier_if(&mut list, row, count, is_nonzero(count))?;
     }
     Ok(list)
 }
@@ -138,7 +144,7 @@ pub fn multipliers(
     requires lows { empty.lows ≡ [] }
     requires highs { empty.highs ≡ [] }
     ensures { (x : Corner) (t : Factors) → IsAt problem.now state.now x t
-        → IfOk result (AreOfConflict (whole problem.now) x t leaving.above leaving.variable) }
+        → IfOk result (AreOfConflict (whole_problem problem.now) x t leaving.above leaving.variable) }
 {
     problems_are_whole();
     let rows = list_rows(problem, state, leaving, empty.rows.into_vec())?;

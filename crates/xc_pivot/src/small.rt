@@ -3,7 +3,7 @@ ghost use Rattle.std.specs.Prelude.{◌≡◌, ◌<◌, ℕ, IfOk, IfErr, OnOk, 
 ghost use Rattle.xc_corners.specs.Corners.{Corner, Factors};
 ghost use Rattle.xc_corners.specs.Ending.{IsTwo, IsSmallNumber, IsValueWith, AreValuesWith};
 ghost use Rattle.xc_corners.specs.Problems.{IsProblem, IsSmallProblem};
-ghost use Rattle.xc_corners.specs.WholeNumbers.{whole};
+ghost use Rattle.xc_corners.specs.WholeNumbers.{whole_problem};
 ghost use Rattle.xc_pivot.specs.Quotients.{PassesSmall};
 ghost use Rattle.xc_pivot.specs.SmallValues.{IsHalfOf, PassesHalf, SmallStays, ValueStays, PassesValue, ValuesStay, PassesOneValue};
 ghost use Rattle.xc_pivot.specs.States.{IsShaped, IsAt};
@@ -36,9 +36,9 @@ pub fn small_number(problem: &Problem, state: &State) -> Result<Frac, Wide>
     requires problem { IsProblem problem.now }
     requires small { IsSmallProblem problem.now }
     requires shaped { IsShaped problem.now state.now }
-    ensures is { (x : Corner) (t : Factors) → IsAt problem.now state.now x t → IfOk result (IsSmallNumber (whole problem.now) x t) }
-    ensures stays { (x : Corner) (t : Factors) → IsAt problem.now state.now x t → OnOk result (SmallStays (whole problem.now) x t) }
-    ensures passes { (x : Corner) (t : Factors) → IsAt problem.now state.now x t → IfErr result (PassesSmall (whole problem.now) x t) }
+    ensures is { (x : Corner) (t : Factors) → IsAt problem.now state.now x t → IfOk result (IsSmallNumber (whole_problem problem.now) x t) }
+    ensures stays { (x : Corner) (t : Factors) → IsAt problem.now state.now x t → OnOk result (SmallStays (whole_problem problem.now) x t) }
+    ensures passes { (x : Corner) (t : Factors) → IsAt problem.now state.now x t → IfErr result (PassesSmall (whole_problem problem.now) x t) }
 {
     problems_are_whole();
     match least_quotient(problem, state) {
@@ -53,11 +53,11 @@ fn value_with(problem: &Problem, state: &State, variable: u32, small: Frac) -> R
     requires shaped { IsShaped problem.now state.now }
     requires variable { variable < length state.now.places.items }
     ensures is { (x : Corner) (t : Factors) → IsAt problem.now state.now x t
-        → IfOk result (IsValueWith (whole problem.now) x t small variable) }
+        → IfOk result (IsValueWith (whole_problem problem.now) x t small variable) }
     ensures stays { (x : Corner) (t : Factors) → IsAt problem.now state.now x t
-        → OnOk result (ValueStays (whole problem.now) x t small variable) }
+        → OnOk result (ValueStays (whole_problem problem.now) x t small variable) }
     ensures passes { (x : Corner) (t : Factors) → IsAt problem.now state.now x t
-        → IfErr result (PassesValue (whole problem.now) x t small variable) }
+        → IfErr result (PassesValue (whole_problem problem.now) x t small variable) }
 {
     let value = value_of(problem, state, variable);
     match value.tiny.mul(small) {
@@ -79,11 +79,11 @@ pub fn put_values(
     requires count { length values.old ≡ length problem.now.ranges }
     ensures count { length values.new ≡ length values.old }
     ensures are { (x : Corner) (t : Factors) → IsAt problem.now state.now x t
-        → OnOk result (AreValuesWith (whole problem.now) x t small values.new) }
+        → OnOk result (AreValuesWith (whole_problem problem.now) x t small values.new) }
     ensures stays { (x : Corner) (t : Factors) → IsAt problem.now state.now x t
-        → OnOk result (ValuesStay (whole problem.now) x t small) }
+        → OnOk result (ValuesStay (whole_problem problem.now) x t small) }
     ensures passes { (x : Corner) (t : Factors) → IsAt problem.now state.now x t
-        → IfErr result (PassesOneValue (whole problem.now) x t small) }
+        → IfErr result (PassesOneValue (whole_problem problem.now) x t small) }
 {
     problems_are_whole();
     for variable in 0..values.len() as u32 {

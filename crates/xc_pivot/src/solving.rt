@@ -2,19 +2,19 @@
 ghost use Rattle.std.specs.Prelude.{◌≡◌, ◌<◌, ◌^◌, [], IfOk, IfSome, IfNone, length};
 ghost use Rattle.xc_corners.specs.Corners.{Corner, Factors};
 ghost use Rattle.xc_corners.specs.Problems.{IsProblem, IsSmallProblem};
-ghost use Rattle.xc_corners.specs.WholeNumbers.{whole};
+ghost use Rattle.xc_corners.specs.WholeNumbers.{whole_problem};
 ghost use Rattle.xc_pivot.specs.SmallValues.{AreDone, PassesFeasible};
 ghost use Rattle.xc_pivot.specs.Solving.{IsSolution, IsRefutation, StopsAt, IfFeasible, IfInfeasible, IfStopped};
 ghost use Rattle.xc_pivot.specs.States.{IsShaped, IsAt};
 ghost use Rattle.xc_pivot.specs.Walks.{IsStop};
 
-use crate::choosing::leaving;
+use crate::choosing::leaving_variable;
 use crate::laws::corner_laws;
 use crate::refuting::multipliers;
 use crate::small::{put_values, small_number};
 use crate::starting::start;
 use crate::types::{Outcome, State};
-use crate::walking::{tell, to_the_end};
+use crate::walking::{tell_corner, walk_to_end};
 use std::alloc::Global;
 use xc_corners::laws::{conflicts_contradict, feasible_corners_solve, problems_are_whole};
 use xc_corners::{Multipliers, Problem};
@@ -41,15 +41,15 @@ pub fn solve(alloc: Global, problem: &Problem) -> Result<Outcome, Memory>
     let high = Vec::with_capacity(alloc, state.places.len())?;
     let mut values = zero_values(alloc, problem.ranges.as_slice().len() as u32)?;
     let empty = empty_lists(alloc, problem)?;
-    if let Some(wide) = to_the_end(problem, &mut state) {
-        return stopped(&state, basic, high, wide);
+    if let Some(wide) = walk_to_end(problem, &mut state) {
+        return too_wide_outcome(&state, basic, high, wide);
     }
-    if let Some(leaving) = leaving(problem, &state) {
+    if let Some(leaving) = leaving_variable(problem, &state) {
         let refutation = multipliers(problem, &state, leaving, empty)?;
         return Ok(Outcome::Infeasible(refutation));
     }
-    if let Some(wide) = put_feasible(problem, &state, values.as_mut_slice()) {
-        return stopped(&state, basic, high, wide);
+    if let Some(wide) = put_feasible_values(problem, &state, values.as_mut_slice()) {
+        return too_wide_outcome(&state, basic, high, wide);
     }
     Ok(Outcome::Feasible(Items::of(values)))
 }
@@ -82,26 +82,31 @@ fn empty_lists(alloc: Global, problem: &Problem) -> Result<Multipliers, Memory>
 }
 
 // The corner of the state, told by two lists that are empty yet, and the operation that passes there.
-fn stopped(state: &State, basic: Vec<u32>, high: Vec<u32>, wide: Wide) -> Result<Outcome, Memory>
+fn too_wide_outcome(
+    state: &State,
+    basic: Vec<u32>,
+    high: Vec<u32>,
+    wide: Wide,
+) -> Result<Outcome, Memory>
     requires few { length state.now.places.items < 2 ^ 32 }
     requires basic { basic.items ≡ [] }
     requires high { high.items ≡ [] }
     ensures { IfOk result (IsStop state.now.places.items wide) }
 {
-    let corner = tell(state.places.as_slice(), basic, high)?;
+    let corner = tell_corner(state.places.as_slice(), basic, high)?;
     Ok(Outcome::TooWide(corner, wide))
 }
 
 // Puts the values of a feasible corner with its small number; or answers an operation that passes.
-fn put_feasible(problem: &Problem, state: &State, values: &mut [Frac]) -> Option<Wide>
+fn put_feasible_values(problem: &Problem, state: &State, values: &mut [Frac]) -> Option<Wide>
     requires problem { IsProblem problem.now }
     requires few { IsSmallProblem problem.now }
     requires shaped { IsShaped problem.now state.now }
     requires count { length values.old ≡ length problem.now.ranges }
     ensures none { (x : Corner) (t : Factors) → IsAt problem.now state.now x t
-        → IfNone result (AreDone (whole problem.now) x t values.new) }
+        → IfNone result (AreDone (whole_problem problem.now) x t values.new) }
     ensures some { (x : Corner) (t : Factors) → IsAt problem.now state.now x t
-        → IfSome result (PassesFeasible (whole problem.now) x t) }
+        → IfSome result (PassesFeasible (whole_problem problem.now) x t) }
 {
     match small_number(problem, state) {
         Err(wide) => Some(wide),

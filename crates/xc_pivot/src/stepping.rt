@@ -2,13 +2,13 @@
 ghost use Rattle.std.specs.Prelude.{◌≡◌, ◌≢◌, ◌<◌, ◌^◌, ℕ, List, IfOk, IfErr, OnOk, OnErr, length, slice_set};
 ghost use Rattle.xc_corners.specs.Corners.{Corner, Factors};
 ghost use Rattle.xc_corners.specs.Problems.{WholeProblem, IsProblem, IsSmallProblem};
-ghost use Rattle.xc_corners.specs.WholeNumbers.{whole};
+ghost use Rattle.xc_corners.specs.WholeNumbers.{whole_problem};
 ghost use Rattle.xc_model.specs.Ratio.{Ratio};
 ghost use Rattle.xc_frac.specs.declared.delta.Delta.{Delta};
 ghost use Rattle.xc_frac.specs.declared.wide.Wide.{Wide};
 ghost use Rattle.xc_pivot.specs.States.{IsShaped, IsAt, IsChoice, HasRow};
 ghost use Rattle.xc_pivot.specs.declared.types.Place.{Place};
-ghost use Rattle.xc_pivot.specs.Steps.{IsAtNext, PassesNext, IsStepOf, IsEnteringMoved, IsBasicMoved, AreMoved, IsBasicAt, AreBasicAt, IsGapOf, IsMoveOf, IsEnteringValue, IsPassedBound, IsChosen, replaced, left_place, is_left_high};
+ghost use Rattle.xc_pivot.specs.Steps.{IsAtNext, PassesNext, IsStepOf, IsEnteringMoved, IsBasicMoved, AreMoved, IsBasicAt, AreBasicAt, IsGapOf, IsMoveOf, IsEnteringValue, IsPassedBound, IsChosen, places_after_exchange, left_place, is_left_high};
 
 use crate::bounds::{high_of, low_of};
 use crate::choosing::is_free;
@@ -29,9 +29,9 @@ fn step(problem: &Problem, state: &State, choice: &Choice) -> Result<Delta<Frac>
     requires shaped { IsShaped problem.now state.now }
     requires chosen { IsChosen state.now choice.now }
     ensures is { (x : Corner) (t : Factors) → IsAt problem.now state.now x t
-        → IfOk result (IsStepOf (whole problem.now) x t choice.now) }
+        → IfOk result (IsStepOf (whole_problem problem.now) x t choice.now) }
     ensures passes { (x : Corner) (t : Factors) → IsAt problem.now state.now x t
-        → IfErr result (PassesNext (whole problem.now) x t choice.now) }
+        → IfErr result (PassesNext (whole_problem problem.now) x t choice.now) }
 {
     match gap(problem, state, choice) {
         Err(wide) => Err(wide),
@@ -50,9 +50,9 @@ fn gap(problem: &Problem, state: &State, choice: &Choice) -> Result<Delta<Frac>,
     requires shaped { IsShaped problem.now state.now }
     requires chosen { IsChosen state.now choice.now }
     ensures is { (x : Corner) (t : Factors) → IsAt problem.now state.now x t
-        → IfOk result (IsGapOf (whole problem.now) x t choice.now) }
+        → IfOk result (IsGapOf (whole_problem problem.now) x t choice.now) }
     ensures passes { (x : Corner) (t : Factors) → IsAt problem.now state.now x t
-        → IfErr result (PassesNext (whole problem.now) x t choice.now) }
+        → IfErr result (PassesNext (whole_problem problem.now) x t choice.now) }
 {
     difference(
         passed_bound(problem, choice),
@@ -72,7 +72,7 @@ fn passed_bound(problem: &Problem, choice: &Choice) -> Delta<Frac>
 }
 
 // The value of the entering variable, moved by the step.
-fn entering_moved(
+fn entering_value(
     problem: &Problem,
     state: &State,
     choice: &Choice,
@@ -81,10 +81,10 @@ fn entering_moved(
     requires problem { IsProblem problem.now }
     requires shaped { IsShaped problem.now state.now }
     requires chosen { IsChosen state.now choice.now }
-    ensures is { (x : Corner) (t : Factors) → IsAt problem.now state.now x t → IsStepOf (whole problem.now) x t choice.now step.now
-        → IfOk result (IsEnteringMoved (whole problem.now) x t choice.now) }
+    ensures is { (x : Corner) (t : Factors) → IsAt problem.now state.now x t → IsStepOf (whole_problem problem.now) x t choice.now step.now
+        → IfOk result (IsEnteringMoved (whole_problem problem.now) x t choice.now) }
     ensures passes { (x : Corner) (t : Factors) → IsAt problem.now state.now x t
-        → IsStepOf (whole problem.now) x t choice.now step.now → IfErr result (PassesNext (whole problem.now) x t choice.now) }
+        → IsStepOf (whole_problem problem.now) x t choice.now step.now → IfErr result (PassesNext (whole_problem problem.now) x t choice.now) }
 {
     sum(side_bound(problem, state, choice), *step)
 }
@@ -95,7 +95,7 @@ fn side_bound(problem: &Problem, state: &State, choice: &Choice) -> Delta<Frac>
     requires shaped { IsShaped problem.now state.now }
     requires chosen { IsChosen state.now choice.now }
     ensures value { (x : Corner) (t : Factors) → IsAt problem.now state.now x t
-        → IsEnteringValue (whole problem.now) x t choice.now result }
+        → IsEnteringValue (whole_problem problem.now) x t choice.now result }
 {
     values_at_corners();
     match state.places[choice.entering.variable as usize] {
@@ -124,7 +124,7 @@ fn move_others(
         → IfErr result (PassesNext p x t choice.now) }
 {
     for row in 0..values.len() as u32 {
-        match basic_moved(table, choice, row, values[row as usize], step) {
+        match basic_value(table, choice, row, values[row as usize], step) {
             Ok(value) => values[row as usize] = value,
             Err(wide) => return Err(wide),
         }
@@ -133,7 +133,7 @@ fn move_others(
 }
 
 // The value of another basic variable, moved by its factor times the step; that of the leaving one as it is.
-fn basic_moved(
+fn basic_value(
     table: &Tableau,
     choice: &Choice,
     row: u32,
@@ -189,10 +189,10 @@ fn move_values(
     ensures table { state.new.table ≡ state.old.table }
     ensures places { state.new.places ≡ state.old.places }
     ensures count { length state.new.values.items ≡ length state.old.values.items }
-    ensures done { (x : Corner) (t : Factors) → IsAt problem.now state.old x t → IsStepOf (whole problem.now) x t choice.now step.now
-        → OnOk result (AreMoved (whole problem.now) x t choice.now state.old.places.items (length state.old.values.items) state.new.values.items) }
-    ensures passes { (x : Corner) (t : Factors) → IsAt problem.now state.old x t → IsStepOf (whole problem.now) x t choice.now step.now
-        → IfErr result (PassesNext (whole problem.now) x t choice.now) }
+    ensures done { (x : Corner) (t : Factors) → IsAt problem.now state.old x t → IsStepOf (whole_problem problem.now) x t choice.now step.now
+        → OnOk result (AreMoved (whole_problem problem.now) x t choice.now state.old.places.items (length state.old.values.items) state.new.values.items) }
+    ensures passes { (x : Corner) (t : Factors) → IsAt problem.now state.old x t → IsStepOf (whole_problem problem.now) x t choice.now step.now
+        → IfErr result (PassesNext (whole_problem problem.now) x t choice.now) }
 {
     problems_are_whole();
     move_others(&state.table, state.values.as_mut_slice(), choice, step)
@@ -209,13 +209,13 @@ fn put_value(state: &mut State, row: u32, value: Delta<Frac>)
 }
 
 // The places after the exchange.
-fn replace(problem: &Problem, state: &mut State, choice: &Choice)
+fn exchange_places(problem: &Problem, state: &mut State, choice: &Choice)
     requires problem { IsProblem problem.now }
     requires leaving { choice.now.leaving.variable < length state.old.places.items }
     requires entering { choice.now.entering.variable < length state.old.places.items }
     ensures table { state.new.table ≡ state.old.table }
     ensures values { state.new.values ≡ state.old.values }
-    ensures places { state.new.places.items ≡ replaced problem.now choice.now state.old.places.items }
+    ensures places { state.new.places.items ≡ places_after_exchange problem.now choice.now state.old.places.items }
 {
     let left = left_place(problem, choice);
     state.places[choice.leaving.variable as usize] = left;
@@ -262,14 +262,14 @@ pub fn exchange(problem: &Problem, state: &mut State, choice: &Choice) -> Result
     ensures shaped { OnOk result (IsShaped problem.now state.new) }
     ensures places { OnErr result (state.new.places ≡ state.old.places) }
     ensures at { (x : Corner) (t : Factors) → IsAt problem.now state.old x t
-        → IsChoice (whole problem.now) state.old.places.items x t choice.now
+        → IsChoice (whole_problem problem.now) state.old.places.items x t choice.now
         → OnOk result (IsAtNext problem.now state.new x t choice.now) }
     ensures fits { (x : Corner) (t : Factors) → IsAt problem.now state.old x t
-        → IsChoice (whole problem.now) state.old.places.items x t choice.now
-        → OnOk result ((w : Wide) → ¬ PassesNext (whole problem.now) x t choice.now w) }
+        → IsChoice (whole_problem problem.now) state.old.places.items x t choice.now
+        → OnOk result ((w : Wide) → ¬ PassesNext (whole_problem problem.now) x t choice.now w) }
     ensures passes { (x : Corner) (t : Factors) → IsAt problem.now state.old x t
-        → IsChoice (whole problem.now) state.old.places.items x t choice.now
-        → IfErr result (PassesNext (whole problem.now) x t choice.now) }
+        → IsChoice (whole_problem problem.now) state.old.places.items x t choice.now
+        → IfErr result (PassesNext (whole_problem problem.now) x t choice.now) }
 {
     problems_are_whole();
     basic_variables();
@@ -280,7 +280,7 @@ pub fn exchange(problem: &Problem, state: &mut State, choice: &Choice) -> Result
         Ok(step) => step,
         Err(wide) => return Err(wide),
     };
-    let entering = match entering_moved(problem, state, choice, &step) {
+    let entering = match entering_value(problem, state, choice, &step) {
         Ok(entering) => entering,
         Err(wide) => return Err(wide),
     };
@@ -294,6 +294,6 @@ pub fn exchange(problem: &Problem, state: &mut State, choice: &Choice) -> Result
         return Err(wide);
     }
     put_value(state, choice.leaving.row, entering);
-    replace(problem, state, choice);
+    exchange_places(problem, state, choice);
     Ok(())
 }

@@ -1,10 +1,10 @@
 // The walk from the first corner to the last.
 ghost use Rattle.std.specs.Prelude.{◌≡◌, ◌+◌, ◌<◌, ◌^◌, ◌++◌, ◌∷◌, [], ℕ, if◌then◌else◌, IfOk, OnOk, IfSome, IfNone, length, All};
-ghost use Rattle.xc_corners.specs.Choices.{first};
+ghost use Rattle.xc_corners.specs.Choices.{first_corner};
 ghost use Rattle.xc_corners.specs.Operations.{IsZero};
 ghost use Rattle.xc_corners.specs.Problems.{IsProblem, IsSmallProblem};
 ghost use Rattle.xc_corners.specs.Tables.{first_factors};
-ghost use Rattle.xc_corners.specs.WholeNumbers.{whole};
+ghost use Rattle.xc_corners.specs.WholeNumbers.{whole_problem};
 ghost use Rattle.xc_frac.specs.declared.wide.Wide.{Wide};
 ghost use Rattle.xc_pivot.specs.Firsts.{PassesFirst, AreFirstPlaces};
 ghost use Rattle.xc_pivot.specs.States.{IsShaped, IsAt, is_row, is_high};
@@ -40,8 +40,8 @@ pub fn walk(alloc: Global, problem: &Problem) -> Result<Walk, Memory>
     let mut state = start(alloc, problem)?;
     let basic = Vec::with_capacity(alloc, state.places.len())?;
     let high = Vec::with_capacity(alloc, state.places.len())?;
-    let end = to_the_end(problem, &mut state);
-    let corner = tell(state.places.as_slice(), basic, high)?;
+    let end = walk_to_end(problem, &mut state);
+    let corner = tell_corner(state.places.as_slice(), basic, high)?;
     Ok(match end {
         None => Walk::Last(corner),
         Some(wide) => Walk::TooWide(corner, wide),
@@ -49,7 +49,7 @@ pub fn walk(alloc: Global, problem: &Problem) -> Result<Walk, Memory>
 }
 
 /// Goes from the first corner as far as no operation passes: to the last one, or to one where the answer passes.
-pub fn to_the_end(problem: &Problem, state: &mut State) -> Option<Wide>
+pub fn walk_to_end(problem: &Problem, state: &mut State) -> Option<Wide>
     requires problem { IsProblem problem.now }
     requires small { IsSmallProblem problem.now }
     requires shaped { IsShaped problem.now state.old }
@@ -75,7 +75,7 @@ fn run<L: Ledger>(problem: &Problem, state: &mut State, blank: Blank) -> Option<
     requires problem { IsProblem problem.now }
     requires small { IsSmallProblem problem.now }
     requires shaped { IsShaped problem.now state.old }
-    requires at { IsAt problem.now state.old (first (whole problem.now)) (first_factors (whole problem.now)) }
+    requires at { IsAt problem.now state.old (first_corner (whole_problem problem.now)) (first_factors (whole_problem problem.now)) }
     requires fits { (w : Wide) → ¬ PassesFirst problem.now w }
     ensures few { length state.new.places.items < 2 ^ 32 }
     ensures none { IfNone result (EndsAtLast problem.now state.new) }
@@ -95,21 +95,25 @@ fn run<L: Ledger>(problem: &Problem, state: &mut State, blank: Blank) -> Option<
 }
 
 /// The corner of these places, told by two lists that are empty yet.
-pub fn tell(places: &[Place], mut basic: Vec<u32>, mut high: Vec<u32>) -> Result<Corner, Memory>
+pub fn tell_corner(
+    places: &[Place],
+    mut basic: Vec<u32>,
+    mut high: Vec<u32>,
+) -> Result<Corner, Memory>
     requires few { length places.now < 2 ^ 32 }
     requires basic { basic.items ≡ [] }
     requires high { high.items ≡ [] }
     ensures { IfOk result (TellsCorner places.now) }
 {
     for variable in 0..places.len() as u32 {
-        note(&mut basic, variable, is_basic(&places[variable as usize]))?;
-        note(&mut high, variable, is_on_high(&places[variable as usize]))?;
+        push_number_if(&mut basic, variable, is_basic(&places[variable as usize]))?;
+        push_number_if(&mut high, variable, is_on_high(&places[variable as usize]))?;
     }
     Ok(Corner::of(basic, high))
 }
 
 // Puts a number into the list, or not.
-fn note(list: &mut Vec<u32>, number: u32, there: bool) -> Result<(), Memory>
+fn push_number_if(list: &mut Vec<u32>, number: u32, there: bool) -> Result<(), Memory>
     ensures { OnOk result (list.new.items ≡ (if there then list.old.items ++ number ∷ [] else list.old.items)) }
 {
     if there {

@@ -62,7 +62,7 @@ pub fn members_of(alloc: Global, facts: &[Fact]) -> Result<Vec<Members>, Memory>
     ensures { IfOk result (λ members. members.items ≡ members_by (firsts_of facts.now)) }
 {
     let places = Firsts::of(alloc, places_of(alloc, facts)?)?;
-    spread(alloc, places.firsts())
+    members_by_first(alloc, places.firsts())
 }
 
 // The place of each fact.
@@ -80,12 +80,12 @@ fn places_of(alloc: Global, facts: &[Fact]) -> Result<Vec<Place>, Memory>
 }
 
 // Puts the number of each fact to those of its first.
-fn spread(alloc: Global, firsts: &[u64]) -> Result<Vec<Members>, Memory>
+fn members_by_first(alloc: Global, firsts: &[u64]) -> Result<Vec<Members>, Memory>
     requires few { length firsts.now < 2 ^ 31 }
     requires inside { All (λ first. first < length firsts.now) firsts.now }
     ensures { IfOk result (λ members. members.items ≡ members_by firsts.now) }
 {
-    let mut members = none_of(alloc, firsts)?;
+    let mut members = no_members(alloc, firsts)?;
     for (fact, first) in firsts.iter().enumerate() {
         members[*first as usize].push(fact as u32)?;
     }
@@ -93,7 +93,7 @@ fn spread(alloc: Global, firsts: &[u64]) -> Result<Vec<Members>, Memory>
 }
 
 // No numbers, for each fact.
-fn none_of(alloc: Global, firsts: &[u64]) -> Result<Vec<Members>, Memory>
+fn no_members(alloc: Global, firsts: &[u64]) -> Result<Vec<Members>, Memory>
     ensures { IfOk result (λ none. none.items ≡ map (λ _. []) firsts.now) }
 {
     let mut none = Vec::new(alloc);

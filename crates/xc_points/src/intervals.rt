@@ -25,14 +25,17 @@ pub fn intervals_of(
 {
     let mut ends = Vec::new(alloc);
     for fact in facts {
-        note(&mut ends, interval_of(fact, mode))?;
+        put_last(&mut ends, interval_of(fact, mode))?;
     }
     Ok(ends)
 }
 
 // Puts the interval of the next fact last. It is taken apart and put together again, since the prover has to
 // meet the type of its ends here.
-fn note(ends: &mut Vec<Option<Interval<Frac>>>, next: Option<Interval<Frac>>) -> Result<(), Memory>
+fn put_last(
+    ends: &mut Vec<Option<Interval<Frac>>>,
+    next: Option<Interval<Frac>>,
+) -> Result<(), Memory>
     ensures { IfOk result (λ _. ends.new.items ≡ ends.old.items ++ next ∷ []) }
 {
     match next {

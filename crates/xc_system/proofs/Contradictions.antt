@@ -23,7 +23,7 @@ use Rattle.xc_system.specs.Kept.{Multipliers}
 use Rattle.xc_system.specs.Laws.{ExcludesPassing, ExcludesSolutions, SolvingMaySolve}
 use Rattle.xc_system.specs.Refutations as listed
 use Rattle.xc_system.specs.Refutations.{IsContradiction, IsKnown, AdmitsAt, Passes, coefficient, constant, lists_open, low_at, high_at, is_low_open, is_high_open, unit_at}
-use Rattle.xc_system.specs.Solutions.{Assignment, IsZero, Admits, MayAdmit, Holds, weighed}
+use Rattle.xc_system.specs.Solutions.{Assignment, IsZero, Admits, MayAdmit, Holds, sum_over_entries}
 use Rattle.xc_system.specs.Systems.{Constraints, IsSystem, point_at, equation_at}
 use Rattle.xc_system.specs.declared.types.Bound.{Bound}
 use Rattle.xc_system.specs.declared.types.Entry.{Entry}
@@ -100,13 +100,13 @@ module _ (s : Constraints) (r : Multipliers) (z : Assignment) where
     }
 
     -- the factors and the ends are over d
-    rows_weighed : (es : List Entry) → AllByRecursion (Weighs d) es → SameNumber (weighed es z) (ratio (total (entries_scaled d es) (λ k. up d (z k))) (d * d) (mul-pos p p))
+    rows_weighed : (es : List Entry) → AllByRecursion (Weighs d) es → SameNumber (sum_over_entries es z) (ratio (total (entries_scaled d es) (λ k. up d (z k))) (d * d) (mul-pos p p))
     rows_weighed es a = weighed_stands d d p p es z (λ k. up d (z k)) (all_alike (Weighs d) _ es (λ e h. (h.0, up_stands d p (z e.point) h.1)) a)
 
-    units_weighed : (j : ℕ) (es : List Entry) → AllByRecursion (Weighs d) es → SameNumber (weighed es (unit_at j)) (ratio (total (entries_scaled d es) (one_at j)) (d * 1) (mul-pos p one_positive))
+    units_weighed : (j : ℕ) (es : List Entry) → AllByRecursion (Weighs d) es → SameNumber (sum_over_entries es (unit_at j)) (ratio (total (entries_scaled d es) (one_at j)) (d * 1) (mul-pos p one_positive))
     units_weighed j es a = weighed_stands d 1 p one_positive es (unit_at j) (one_at j) (all_alike (Weighs d) _ es (λ e h. (h.0, unit_stands j e.point)) a)
 
-    units_bound : (j : ℕ) → SameNumber (listed.total r.bindings (λ i. weighed (equation_at s.equations i).entries (unit_at j))) (ratio (total (scaled d r.bindings) (λ i. total (entries_scaled d (equation_at s.equations i).entries) (one_at j))) (d * (d * 1)) (mul-pos p (mul-pos p one_positive)))
+    units_bound : (j : ℕ) → SameNumber (listed.total r.bindings (λ i. sum_over_entries (equation_at s.equations i).entries (unit_at j))) (ratio (total (scaled d r.bindings) (λ i. total (entries_scaled d (equation_at s.equations i).entries) (one_at j))) (d * (d * 1)) (mul-pos p (mul-pos p one_positive)))
     units_bound j = total_stands d (d * 1) p (mul-pos p one_positive) r.bindings _ _ (all_alike (Binds d) _ r.bindings (λ m h. (h.0, units_weighed j (equation_at s.equations m.0).entries h.1)) serves.0)
 
     units_ended : (end : ℕ → Fraction) (ms : List (ℕ × Ratio)) (j : ℕ) → AllByRecursion (Ends end d) ms → SameNumber (listed.total ms (λ k. unit_at j (point_at s.bounds k))) (ratio (total (scaled d ms) (λ k. one_at j (point_at s.bounds k))) (d * 1) (mul-pos p one_positive))
@@ -208,7 +208,7 @@ module _ (s : Constraints) (r : Multipliers) (z : Assignment) where
     meets : IsContradiction s r → Passes s r z → Meets whole_of (λ k. up d (z k))
     meets c h = record {
       bindings = all_map _ (λ m. (m.0, up d (fraction_of m.1))) r.bindings (all_alike (λ m. Holds (equation_at s.equations m.0) z × Binds d m) _ r.bindings
-          (λ m w. zero_stands (weighed (equation_at s.equations m.0).entries z) _ (d * d) (mul-pos p p) (rows_weighed (equation_at s.equations m.0).entries w.1.1) w.0)
+          (λ m w. zero_stands (sum_over_entries (equation_at s.equations m.0).entries z) _ (d * d) (mul-pos p p) (rows_weighed (equation_at s.equations m.0).entries w.1.1) w.0)
           (all_both (λ m. Holds (equation_at s.equations m.0) z) (Binds d) r.bindings (recursion_from_All (λ m. Holds (equation_at s.equations m.0) z) r.bindings h.bindings) serves.0));
       lows = all_map _ (λ m. (m.0, up d (fraction_of m.1))) r.lows (all_alike (Counts (low_at s)) _ r.lows
           (λ m w. (grows m w.0.0 w.1.1.0, low_less m.0 w.0.1 w.1.0 w.1.1.1.0 w.1.1.1.1))

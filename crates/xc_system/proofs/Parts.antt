@@ -14,14 +14,14 @@ use Rattle.xc_system.specs.Kept.{Multipliers}
 use Rattle.xc_system.specs.Laws.{JoinedSolve, PartsSolved, PartContradicts}
 use Rattle.xc_lists.specs.Members.{IsIn}
 use Rattle.xc_system.specs.Refutations.{IsKnownIn, coefficient, total, unit_at}
-use Rattle.xc_system.specs.Solutions.{Assignment, IsZero, Admits, Holds, weighed}
+use Rattle.xc_system.specs.Solutions.{Assignment, IsZero, Admits, Holds, sum_over_entries}
 use Rattle.xc_system.specs.Systems.{Constraints, IsSystem, point_at, equation_at, points_of}
 use Rattle.xc_system.specs.declared.types.Bound.{Bound}
 use Rattle.xc_system.specs.declared.types.Entry.{Entry}
 use Rattle.xc_system.specs.declared.types.Equation.{Equation}
 
 -- values that agree at the points of an equation
-weighed_alike : (es : List Entry) (y z : Assignment) → ((p : ℕ) → IsIn p (map (λ e. e.point) es) → y p ≡ z p) → weighed es y ≡ weighed es z
+weighed_alike : (es : List Entry) (y z : Assignment) → ((p : ℕ) → IsIn p (map (λ e. e.point) es) → y p ≡ z p) → sum_over_entries es y ≡ sum_over_entries es z
 weighed_alike [] y z h = refl
 weighed_alike (e ∷ es) y z h = ap₂ sum_of (ap (product_of (fraction_of e.weight)) (h e.point (inl refl))) (weighed_alike es y z (λ p i. h p (inr i)))
 
@@ -44,7 +44,7 @@ joined_solve s cs each z ok are joins solve = record { admitted = admitted; met 
         go (j, h) = subst (Admits bound) (sym (joins j bound.point h.component h.there h.has)) ((solve j h.component h.there).admitted k bound there h.has)
 
     met : (i : ℕ) (equation : Equation) → slice_get s.equations i ≡ Some equation → (es : List Entry) → equation.entries ≡ es → Holds equation z
-    met i equation there [] none = ap (λ (es : List Entry). (weighed es z).num) none
+    met i equation there [] none = ap (λ (es : List Entry). (sum_over_entries es z).num) none
     met i equation there (e ∷ es) some = go (are.all e.point (point_within s i e.point ok has))
       where
         same : equation_at s.equations i ≡ equation
@@ -78,9 +78,9 @@ zero_neg x a = omega (arith, ints)
 unit_elsewhere : (j p : ℕ) → p ≢ j → IsZero (unit_at j p)
 unit_elsewhere j p other = ap (λ (b : Bool). (cond b (whole (pos 1)) (whole (pos 0))).num) (ne_eqb p j other)
 
-weighed_none : (j : ℕ) (es : List Entry) → ((p : ℕ) → IsIn p (map (λ e. e.point) es) → p ≢ j) → IsZero (weighed es (unit_at j))
+weighed_none : (j : ℕ) (es : List Entry) → ((p : ℕ) → IsIn p (map (λ e. e.point) es) → p ≢ j) → IsZero (sum_over_entries es (unit_at j))
 weighed_none j [] h = refl
-weighed_none j (e ∷ es) h = zero_sum (product_of (fraction_of e.weight) (unit_at j e.point)) (weighed es (unit_at j)) (zero_product (fraction_of e.weight) (unit_at j e.point) (unit_elsewhere j e.point (h e.point (inl refl)))) (weighed_none j es (λ p i. h p (inr i)))
+weighed_none j (e ∷ es) h = zero_sum (product_of (fraction_of e.weight) (unit_at j e.point)) (sum_over_entries es (unit_at j)) (zero_product (fraction_of e.weight) (unit_at j e.point) (unit_elsewhere j e.point (h e.point (inl refl)))) (weighed_none j es (λ p i. h p (inr i)))
 
 total_none : (ms : List (ℕ × Ratio)) (of : ℕ → Fraction) → AllByRecursion (λ m. IsZero (of m.0)) ms → IsZero (total ms of)
 total_none [] of a = refl
@@ -91,10 +91,10 @@ all_zero P of [] h a = tt
 all_zero P of (m ∷ ms) h a = (h m a.0, all_zero P of ms h a.1)
 
 -- a point counts as nothing where it counts as nothing in each of the three
-no_coefficient : (s : Constraints) (r : Multipliers) (j : ℕ) → IsZero (total r.bindings (λ i. weighed (equation_at s.equations i).entries (unit_at j)))
+no_coefficient : (s : Constraints) (r : Multipliers) (j : ℕ) → IsZero (total r.bindings (λ i. sum_over_entries (equation_at s.equations i).entries (unit_at j)))
     → IsZero (total r.lows (λ k. unit_at j (point_at s.bounds k))) → IsZero (total r.highs (λ k. unit_at j (point_at s.bounds k))) → IsZero (coefficient s r j)
 no_coefficient s r j a b c =
-    zero_sum (total r.bindings (λ i. weighed (equation_at s.equations i).entries (unit_at j))) (difference_of (total r.lows (λ k. unit_at j (point_at s.bounds k))) (total r.highs (λ k. unit_at j (point_at s.bounds k)))) a
+    zero_sum (total r.bindings (λ i. sum_over_entries (equation_at s.equations i).entries (unit_at j))) (difference_of (total r.lows (λ k. unit_at j (point_at s.bounds k))) (total r.highs (λ k. unit_at j (point_at s.bounds k)))) a
     (zero_sum (total r.lows (λ k. unit_at j (point_at s.bounds k))) (neg_of (total r.highs (λ k. unit_at j (point_at s.bounds k)))) b (zero_neg (total r.highs (λ k. unit_at j (point_at s.bounds k))) c))
 
 pub part_contradicts : PartContradicts
@@ -122,7 +122,7 @@ part_contradicts s c r ok is h = record {
     cancels j (inl at) = h.cancels j at
     cancels j (inr out) =
         no_coefficient s r j
-        (total_none r.bindings (λ i. weighed (equation_at s.equations i).entries (unit_at j)) (all_zero (λ m. IsIn m.0 c.equations) (λ i. weighed (equation_at s.equations i).entries (unit_at j)) r.bindings
+        (total_none r.bindings (λ i. sum_over_entries (equation_at s.equations i).entries (unit_at j)) (all_zero (λ m. IsIn m.0 c.equations) (λ i. sum_over_entries (equation_at s.equations i).entries (unit_at j)) r.bindings
         (λ m own. weighed_none j (equation_at s.equations m.0).entries (λ p has. elsewhere j p out (owned s c is m.0 p (point_within s m.0 p ok has) own has)))
         (recursion_from_All (λ m. IsIn m.0 c.equations) r.bindings h.bindings)))
         (ended j out r.lows h.lows)

@@ -2,7 +2,7 @@
 use Rattle.std.proofs.Common.{◌≡◌, ℕ, ◌<◌, ◌≤◌, List, length, set, get_or, ◌⊎◌, inl, inr, refl, sym, ap, ◌∙◌, arith, cond, eqb, max, min, subst}
 use Rattle.std.proofs.lemmas.List.{get_or-set_same, get_or-set_other, length-set}
 use Rattle.std.proofs.lemmas.Bool.{cases_eq, eq-eqb, ne_eqb}
-use Rattle.xc_system.specs.Steps.Roots.{Descends, IsRoots, joined}
+use Rattle.xc_system.specs.Steps.Roots.{Descends, IsRoots, roots_after_join}
 
 -- q is pointed to a lesser number with the same root
 pub descends_set : (up : List ℕ) (q v : ℕ) → Descends up → q < length up → v ≤ q → Descends (set up q v)
@@ -52,7 +52,7 @@ roots_renamed up m n root h l e f = record { kept = λ p k. kept p (omega (arith
     own p k (inl q) j = rw q (at_m ∙ rw (q, get_or-set_same up m n 0 l) at j)
     own p k (inr q) j = rw (h.own p k (rw (get_or-set_other up m p n 0 q) at j), ne_eqb p m q)
 
-pub roots_join : (up : List ℕ) (m n : ℕ) (root : ℕ → ℕ) (a b : ℕ) → IsRoots up root → m < length up → root m ≡ m → root n ≡ n → m ≡ max (root a) (root b) → n ≡ min (root a) (root b) → IsRoots (set up m n) (joined root a b)
+pub roots_join : (up : List ℕ) (m n : ℕ) (root : ℕ → ℕ) (a b : ℕ) → IsRoots up root → m < length up → root m ≡ m → root n ≡ n → m ≡ max (root a) (root b) → n ≡ min (root a) (root b) → IsRoots (set up m n) (roots_after_join root a b)
 roots_join up m n root a b h l e f s t =
     let P : ℕ → ℕ → Type 0 = λ x y. IsRoots (set up m n) (λ q. cond (eqb (root q) x) y (root q)) in
     subst (λ (x : ℕ). P x (min (root a) (root b))) s (subst (λ (y : ℕ). P m y) t (roots_renamed up m n root h l e f))

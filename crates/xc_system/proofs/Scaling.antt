@@ -16,7 +16,7 @@ use Rattle.xc_model.proofs.Over.{ratio, add_over}
 use Rattle.xc_model.specs.Fraction.{Fraction, SameNumber, IsBelow, whole, sum_of, neg_of, difference_of, product_of, one_positive}
 use Rattle.xc_model.specs.Ratio.{Ratio, fraction_of}
 use Rattle.xc_system.specs.Refutations as listed
-use Rattle.xc_system.specs.Solutions.{Assignment, IsZero, IsNegative, weighed}
+use Rattle.xc_system.specs.Solutions.{Assignment, IsZero, IsNegative, sum_over_entries}
 use Rattle.xc_system.specs.declared.types.Entry.{Entry}
 use Rattle.xc_system.proofs.Totals.{Term, total, one_at, IsLess}
 
@@ -118,7 +118,7 @@ module _ (d e : ℕ) (p : 0 < d) (q : 0 < e) where
   abbrev pub IsWeighed : Assignment → (ℕ → ℤ) → Entry → Type 0
   IsWeighed z to entry = ((fraction_of entry.weight).den ∣ d) × SameNumber (z entry.point) (ratio (to entry.point) e q)
 
-  pub weighed_stands : (es : List Entry) (z : Assignment) (to : ℕ → ℤ) → AllByRecursion (IsWeighed z to) es → SameNumber (weighed es z) (ratio (total (entries_scaled d es) to) (d * e) (mul-pos p q))
+  pub weighed_stands : (es : List Entry) (z : Assignment) (to : ℕ → ℤ) → AllByRecursion (IsWeighed z to) es → SameNumber (sum_over_entries es z) (ratio (total (entries_scaled d es) to) (d * e) (mul-pos p q))
   weighed_stands [] z to a = nothing_stands (d * e) (mul-pos p q)
   weighed_stands (x ∷ es) z to a =
       sum_stands _ _ _ _ (d * e) (mul-pos p q) (product_stands (fraction_of x.weight) (z x.point) (up d (fraction_of x.weight)) (to x.point) d e p q (up_stands d p (fraction_of x.weight) a.0.0) a.0.1) (weighed_stands es z to a.1)

@@ -8,7 +8,7 @@ use Rattle.xc_model.specs.Fraction.{Fraction, whole, sum_of, difference_of, prod
 use Rattle.xc_model.specs.Ratio.{Ratio, fraction_of}
 use Rattle.xc_system.specs.Kept.{Multipliers, IsRefutation}
 use Rattle.xc_lists.specs.Members.{IsIn}
-use Rattle.xc_system.specs.Solutions.{Assignment, IsZero, IsNegative, MayAdmit, Holds, weighed}
+use Rattle.xc_system.specs.Solutions.{Assignment, IsZero, IsNegative, MayAdmit, Holds, sum_over_entries}
 use Rattle.xc_system.specs.Systems.{Constraints, equation_at, range_at, point_at}
 use Rattle.xc_system.specs.declared.types.Bound.{Bound}
 use Rattle.xc_system.specs.declared.types.Component.{Component}
@@ -22,17 +22,19 @@ total (m ∷ ms) of = sum_of (product_of (fraction_of m.1) (of m.0)) (total ms o
 abbrev pub unit_at : ℕ → ℕ → Fraction
 unit_at j p = if p == j then whole (pos 1) else whole (pos 0)
 
--- the values of its ends
+-- the value of the low end of fact k; 0 where it is wide
 abbrev pub low_at : Constraints → ℕ → Fraction
 low_at s k = option_map_or (λ interval. fraction_of (value_of interval.low)) (range_at s.bounds k) (whole (pos 0))
 
+-- and of its high end
 abbrev pub high_at : Constraints → ℕ → Fraction
 high_at s k = option_map_or (λ interval. fraction_of (value_of interval.high)) (range_at s.bounds k) (whole (pos 0))
 
--- and whether they are open
+-- whether the low end of fact k is open; a wide fact has none that is
 abbrev pub is_low_open : Constraints → ℕ → Bool
 is_low_open s k = option_map_or (λ interval. is_open interval.low) (range_at s.bounds k) false
 
+-- and whether its high end is
 abbrev pub is_high_open : Constraints → ℕ → Bool
 is_high_open s k = option_map_or (λ interval. is_open interval.high) (range_at s.bounds k) false
 
@@ -42,7 +44,7 @@ is_high_open s k = option_map_or (λ interval. is_open interval.high) (range_at 
 
 -- the coefficient in it of the value of point j
 abbrev pub coefficient : Constraints → Multipliers → ℕ → Fraction
-coefficient s r j = sum_of (total r.bindings (λ i. weighed (equation_at s.equations i).entries (unit_at j)))
+coefficient s r j = sum_of (total r.bindings (λ i. sum_over_entries (equation_at s.equations i).entries (unit_at j)))
     (difference_of (total r.lows (λ k. unit_at j (point_at s.bounds k))) (total r.highs (λ k. unit_at j (point_at s.bounds k))))
 
 -- its constant

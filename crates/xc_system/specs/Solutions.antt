@@ -14,10 +14,11 @@ use Rattle.xc_system.specs.declared.types.Equation.{Equation}
 abbrev pub Assignment : Type 0
 Assignment = ℕ → Fraction
 
--- the number is 0, or less than 0
+-- the number is 0
 abbrev pub IsZero : Fraction → Type 0
 IsZero x = x.num ≡ pos 0
 
+-- the number is less than 0
 abbrev pub IsNegative : Fraction → Type 0
 IsNegative x = x.num <ℤ pos 0
 
@@ -30,13 +31,13 @@ abbrev pub MayAdmit : Bound → Fraction → Type 0
 MayAdmit bound x = IfSome bound.range (λ interval. HasNumber (numbers_of interval) x)
 
 -- the sum over the entries of weight times value
-abbrev pub weighed : List Entry → Assignment → Fraction
-weighed [] z = whole (pos 0)
-weighed (entry ∷ entries) z = sum_of (product_of (fraction_of entry.weight) (z entry.point)) (weighed entries z)
+abbrev pub sum_over_entries : List Entry → Assignment → Fraction
+sum_over_entries [] z = whole (pos 0)
+sum_over_entries (entry ∷ entries) z = sum_of (product_of (fraction_of entry.weight) (z entry.point)) (sum_over_entries entries z)
 
 -- the equation holds of the values: that sum is 0
 abbrev pub Holds : Equation → Assignment → Type 0
-Holds equation z = IsZero (weighed equation.entries z)
+Holds equation z = IsZero (sum_over_entries equation.entries z)
 
 -- the assignment solves the system: no fact is wide, each admits the value of its point, and each equation holds
 pub record Solves (s : Constraints) (z : Assignment) : Type 0 where

@@ -17,10 +17,11 @@ use Rattle.xc_system.specs.declared.types.Side.{Side}
 use Rattle.xc_system.specs.declared.types.Side.TheVariants.{Low, High}
 use Rattle.xc_system.specs.declared.types.Spot.{Spot}
 
--- the low end of fact k as a number, and its high end
+-- the low end of fact k as a number; 0 where it is wide
 abbrev pub low_end : List Bound → ℕ → End Fraction
 low_end bounds k = option_map_or (λ interval. end_at (λ x. fraction_of x) interval.low) (range_at bounds k) (Closed (whole (pos 0)))
 
+-- and its high end
 abbrev pub high_end : List Bound → ℕ → End Fraction
 high_end bounds k = option_map_or (λ interval. end_at (λ x. fraction_of x) interval.high) (range_at bounds k) (Closed (whole (pos 0)))
 

@@ -7,15 +7,19 @@ use std::alloc::Global;
 use xc_lists::{Items, Memory};
 
 /// For each number below the count, the places at which it stands, ascending.
-pub fn grouped(alloc: Global, numbers: &[u32], count: u32) -> Result<Vec<Items<u32>>, Memory>
+pub fn places_by_number(
+    alloc: Global,
+    numbers: &[u32],
+    count: u32,
+) -> Result<Vec<Items<u32>>, Memory>
     requires { length numbers.now < 2 ^ 32 }
     ensures { IfOk result (λ groups. groups.items ≡ map (places_with numbers.now) (before count)) }
 {
-    lent(alloc, gathered(alloc, numbers, count)?)
+    as_items(alloc, places_as_vectors(alloc, numbers, count)?)
 }
 
 // The same as lists that can grow.
-fn gathered(alloc: Global, numbers: &[u32], count: u32) -> Result<Vec<Vec<u32>>, Memory>
+fn places_as_vectors(alloc: Global, numbers: &[u32], count: u32) -> Result<Vec<Vec<u32>>, Memory>
     requires { length numbers.now < 2 ^ 32 }
     ensures { IfOk result (λ groups. map (λ group. group.items) groups.items ≡ map (places_with numbers.now) (before count)) }
 {
@@ -33,7 +37,7 @@ fn gathered(alloc: Global, numbers: &[u32], count: u32) -> Result<Vec<Vec<u32>>,
 }
 
 // The lists as they are lent.
-fn lent(alloc: Global, groups: Vec<Vec<u32>>) -> Result<Vec<Items<u32>>, Memory>
+fn as_items(alloc: Global, groups: Vec<Vec<u32>>) -> Result<Vec<Items<u32>>, Memory>
     ensures { IfOk result (λ lent. lent.items ≡ map (λ group. group.items) groups.items) }
 {
     let mut lent = Vec::new(alloc);

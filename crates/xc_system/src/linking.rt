@@ -5,7 +5,7 @@ ghost use Rattle.xc_system.specs.Components.{AreComponents};
 ghost use Rattle.xc_system.specs.Steps.Owned.{component_of, owner_of};
 ghost use Rattle.xc_system.specs.Systems.{Constraints};
 
-use crate::grouping::grouped;
+use crate::grouping::places_by_number;
 use crate::roots::{numbers, roots};
 use crate::systems::System;
 use crate::types::{Component, Equation};
@@ -13,8 +13,7 @@ use std::alloc::Global;
 use xc_lists::{Items, Memory};
 
 /// The components of a system: points that equations link, with these equations. Every point is in one of
-/// them, and they are numbered by their least points. The time grows little faster than the number of
-/// entries.
+/// them, and they are numbered by their least points.
 pub fn components(alloc: Global, system: &System) -> Result<Vec<Component>, Memory>
     ensures { IfOk result (λ components. AreComponents system.now components.items) }
 {
@@ -35,9 +34,9 @@ fn components_of(
     let up = roots(alloc, points, equations)?;
     let (numbers, count) = numbers(alloc, up.as_slice())?;
     let owners = owners(alloc, equations, numbers.as_slice(), count)?;
-    let points = grouped(alloc, numbers.as_slice(), count)?;
-    let equations = grouped(alloc, owners.as_slice(), count)?;
-    paired(alloc, points, equations)
+    let points = places_by_number(alloc, numbers.as_slice(), count)?;
+    let equations = places_by_number(alloc, owners.as_slice(), count)?;
+    pair_with_equations(alloc, points, equations)
 }
 
 // For each equation the number of its first point; this one where it has none.
@@ -69,7 +68,7 @@ fn owner_of(equation: &Equation, numbers: &[u32], none: u32) -> u32
 }
 
 // Points with equations, one by one.
-fn paired(
+fn pair_with_equations(
     alloc: Global,
     points: Vec<Items<u32>>,
     equations: Vec<Items<u32>>,

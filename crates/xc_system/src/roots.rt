@@ -2,7 +2,7 @@
 // is then the root of all that lead to it. Ways are halved as they are gone, so that all together take about
 // as many steps as there are entries.
 ghost use Rattle.std.specs.Prelude.{◌≡◌, ◌+◌, ◌<◌, ◌^◌, ℕ, length, slice_index, All, IfOk};
-ghost use Rattle.xc_system.specs.Steps.Roots.{Descends, IsRoots, IsJoined, joined, rank};
+ghost use Rattle.xc_system.specs.Steps.Roots.{Descends, IsRoots, IsJoined, roots_after_join, rank};
 ghost use Rattle.xc_system.specs.Systems.{equation_at};
 
 use crate::types::Equation;
@@ -45,7 +45,7 @@ fn join(up: &mut [u32], a: u32, b: u32)
     requires right { b < length up.old }
     requires descends { Descends up.old }
     ensures descends { Descends up.new }
-    ensures roots { (root : ℕ → ℕ) → IsRoots up.old root → IsRoots up.new (joined root a b) }
+    ensures roots { (root : ℕ → ℕ) → IsRoots up.old root → IsRoots up.new (roots_after_join root a b) }
 {
     let left = root_of(up, a);
     let right = root_of(up, b);

@@ -25,8 +25,8 @@ pub fn spot_of(first: u32, others: &[u32], bounds: &[Bound]) -> Spot
         },
         None => Spot {
             range,
-            low: tightest(Side::Low, first, others, bounds),
-            high: tightest(Side::High, first, others, bounds),
+            low: first_tightest(Side::Low, first, others, bounds),
+            high: first_tightest(Side::High, first, others, bounds),
         },
     }
 }
@@ -70,7 +70,7 @@ fn first_wide(first: u32, others: &[u32], bounds: &[Bound]) -> Option<u32>
 }
 
 // The first whose end on this side is the tightest, where none is wide.
-fn tightest(side: Side, first: u32, others: &[u32], bounds: &[Bound]) -> u32
+fn first_tightest(side: Side, first: u32, others: &[u32], bounds: &[Bound]) -> u32
     requires first { IsSome (range_at bounds.now first) }
     requires others { All (λ fact. IsSome (range_at bounds.now fact)) others.now }
     ensures { IsFirstTightest (HasTighter side bounds.now) (first ∷ others.now) result }
@@ -78,13 +78,13 @@ fn tightest(side: Side, first: u32, others: &[u32], bounds: &[Bound]) -> u32
     tighter_ends();
     let mut tightest = first;
     for fact in others {
-        tightest = tighter(side, tightest, *fact, bounds);
+        tightest = tighter_of(side, tightest, *fact, bounds);
     }
     tightest
 }
 
 // The later of two facts where its end on this side is the tighter one, and else the earlier.
-fn tighter(side: Side, earlier: u32, later: u32, bounds: &[Bound]) -> u32
+fn tighter_of(side: Side, earlier: u32, later: u32, bounds: &[Bound]) -> u32
     requires earlier { IsSome (range_at bounds.now earlier) }
     requires later { IsSome (range_at bounds.now later) }
     ensures { ((result ≡ later) × HasTighter side bounds.now later earlier)
@@ -103,8 +103,8 @@ fn is_tighter(side: Side, fact: u32, other: u32, bounds: &[Bound]) -> bool
     requires other { IsSome (range_at bounds.now other) }
     ensures { IsTrue result ↔ HasTighter side bounds.now fact other }
 {
-    let interval = known(fact, bounds);
-    let others = known(other, bounds);
+    let interval = known_interval(fact, bounds);
+    let others = known_interval(other, bounds);
     match side {
         Side::Low => interval.low.is_tighter_low(others.low),
         Side::High => interval.high.is_tighter_high(others.high),
@@ -112,7 +112,7 @@ fn is_tighter(side: Side, fact: u32, other: u32, bounds: &[Bound]) -> bool
 }
 
 // The interval of a fact that is not wide.
-fn known(fact: u32, bounds: &[Bound]) -> Interval<Frac>
+fn known_interval(fact: u32, bounds: &[Bound]) -> Interval<Frac>
     requires { IsSome (range_at bounds.now fact) }
     ensures { range_at bounds.now fact ≡ Some result }
 {

@@ -4,7 +4,7 @@ ghost use Rattle.xc_system.specs.Spots.{IsSpot};
 ghost use Rattle.xc_system.specs.Steps.Indexed.{IsIndexOf};
 ghost use Rattle.xc_system.specs.Systems.{IsSystem, IsSmall, facts_of};
 
-use crate::grouping::grouped;
+use crate::grouping::places_by_number;
 use crate::spots::spot_of;
 use crate::types::{Bound, Equation, Spot};
 use std::alloc::Global;
@@ -82,7 +82,7 @@ impl System {
         self.equations.as_slice()
     }
 
-    /// The facts of a point, ascending; there is one at least. It takes no time to find them.
+    /// The facts of a point, ascending; there is one at least. They are at hand and not sought.
     pub fn facts_of(&self, point: u32) -> &[u32]
         requires { point < self.now.points }
         ensures is { result.now ≡ facts_of self.now.bounds point }
@@ -110,11 +110,11 @@ fn facts_by_point(alloc: Global, points: u32, bounds: &[Bound]) -> Result<Vec<It
     requires { length bounds.now < 2 ^ 31 }
     ensures { IfOk result (λ facts. IsIndexOf facts.items points bounds.now) }
 {
-    grouped(alloc, points_of(alloc, bounds)?.as_slice(), points)
+    places_by_number(alloc, points_of_bounds(alloc, bounds)?.as_slice(), points)
 }
 
 // The point of each bound.
-fn points_of(alloc: Global, bounds: &[Bound]) -> Result<Vec<u32>, Memory>
+fn points_of_bounds(alloc: Global, bounds: &[Bound]) -> Result<Vec<u32>, Memory>
     ensures { IfOk result (λ points. points.items ≡ map (λ bound. bound.point) bounds.now) }
 {
     let mut points = Vec::new(alloc);

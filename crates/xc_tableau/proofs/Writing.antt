@@ -4,7 +4,7 @@ use Rattle.std.specs.Prelude.{slice_set}
 use Rattle.std.proofs.lemmas.Bool.{cases_eq}
 use Rattle.xc_model.specs.Ratio.{Ratio}
 use Rattle.xc_lists.proofs.RowPlaces.{place_below, places_apart}
-use Rattle.xc_tableau.specs.Exchanges.{IsEntering, IsMade}
+use Rattle.xc_tableau.specs.Exchanges.{IsEntering, IsOtherEntry}
 use Rattle.xc_tableau.specs.Steps.{table, EnteringDone, RowDone, RowsKept, OthersDone}
 use Rattle.xc_tableau.specs.Tables.{Has}
 use Rattle.xc_tableau.specs.declared.pivoting.Pivot.{Pivot}
@@ -25,13 +25,13 @@ module _ (pivot : Pivot) (entries xs : List Ratio) (k n p : ℕ) (v : Ratio) (is
           let place : p ≡ pivot.row * pivot.columns + n = is ∙ ap (λ m. m * pivot.columns + n) same in
           done j u (omega arith) (written_other xs p _ v u (omega arith) e)
 
-  pub row_next : RowDone pivot entries k n xs → IsMade (table pivot entries) pivot.row pivot.column k n v → RowDone pivot entries k (n + 1) (slice_set xs p v)
+  pub row_next : RowDone pivot entries k n xs → IsOtherEntry (table pivot entries) pivot.row pivot.column k n v → RowDone pivot entries k (n + 1) (slice_set xs p v)
   row_next done here j r h e = go (cases_eq j n)
     where
-      go : ((j ≡ n) ⊎ (j ≢ n)) → IsMade (table pivot entries) pivot.row pivot.column k j r
+      go : ((j ≡ n) ⊎ (j ≢ n)) → IsOtherEntry (table pivot entries) pivot.row pivot.column k j r
       go (inl q) =
           let place : p ≡ k * pivot.columns + j = is ∙ ap (λ m. k * pivot.columns + m) (sym q) in
-          subst (λ (w : Ratio). IsMade (table pivot entries) pivot.row pivot.column k j w) (sym (written_same xs p _ v r place within e)) (subst (λ m. IsMade (table pivot entries) pivot.row pivot.column k m v) (sym q) here)
+          subst (λ (w : Ratio). IsOtherEntry (table pivot entries) pivot.row pivot.column k j w) (sym (written_same xs p _ v r place within e)) (subst (λ m. IsOtherEntry (table pivot entries) pivot.row pivot.column k m v) (sym q) here)
       go (inr q) = done j r (omega arith) (written_other xs p _ v r (omega arith) e)
 
   pub kept_next : (old : List Ratio) → RowsKept pivot k old xs → RowsKept pivot k old (slice_set xs p v)
@@ -44,8 +44,8 @@ module _ (pivot : Pivot) (entries xs ys : List Ratio) (n : ℕ) (kept : RowsKept
   pub others_next : OthersDone pivot entries n xs → (n ≢ pivot.row → RowDone pivot entries n pivot.columns ys) → OthersDone pivot entries (n + 1) ys
   others_next done here k j r h other inside e = go (cases_eq k n)
     where
-      go : ((k ≡ n) ⊎ (k ≢ n)) → IsMade (table pivot entries) pivot.row pivot.column k j r
-      go (inl q) = subst (λ m. IsMade (table pivot entries) pivot.row pivot.column m j r) (sym q) (here (λ same. other (q ∙ same)) j r inside (subst (λ m. Has (table pivot ys) m j r) q e))
+      go : ((k ≡ n) ⊎ (k ≢ n)) → IsOtherEntry (table pivot entries) pivot.row pivot.column k j r
+      go (inl q) = subst (λ m. IsOtherEntry (table pivot entries) pivot.row pivot.column m j r) (sym q) (here (λ same. other (q ∙ same)) j r inside (subst (λ m. Has (table pivot ys) m j r) q e))
       go (inr q) = done k j r (omega arith) other inside (kept k j r q inside e)
 
 pub kept_all : (pivot : Pivot) (k : ℕ) (xs : List Ratio) → RowsKept pivot k xs xs

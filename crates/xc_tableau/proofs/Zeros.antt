@@ -11,7 +11,7 @@ use Rattle.xc_model.specs.Width.{IsNarrow}
 use Rattle.xc_model.proofs.Numbers.{same-sym, same-trans}
 use Rattle.xc_model.proofs.NumbersOver.{number_same, sum_number, zero_over, sum_of_fits}
 use Rattle.xc_model.proofs.Over.{ratio}
-use Rattle.xc_tableau.specs.Exchanges.{IsEntering, IsMade}
+use Rattle.xc_tableau.specs.Exchanges.{IsEntering, IsOtherEntry}
 use Rattle.xc_tableau.specs.Tables.{Table, Has}
 use Rattle.xc_tableau.proofs.Exchanging.{has_same}
 
@@ -51,7 +51,7 @@ module _ (e f : Ratio) (none : f.num ≡ pos 0) where
       (record { den = e.lowest.den_narrow; left = e.lowest.num_narrow; right = lit< tt; sum = subst IsNarrow same e.lowest.num_narrow })
 
 -- where the factor is 0, each entry of the row is what stands there afterwards
-pub stays : (t : Table) (b q k j : ℕ) (f e u : Ratio) → f.num ≡ pos 0 → Has t k q f → Has t k j e → IsEntering t b q j u → IsMade t b q k j e
+pub stays : (t : Table) (b q k j : ℕ) (f e u : Ratio) → f.num ≡ pos 0 → Has t k q f → Has t k j e → IsEntering t b q j u → IsOtherEntry t b q k j e
 stays t b q k j f e u none factor entry entering = (
   (λ same.
       let is : e ≡ f = has_same t k q e f (subst (λ m. Has t k m e) same entry) factor in

@@ -34,12 +34,12 @@ pub record IsRest (t : Table) (b q k j : ℕ) (r : Ratio) : Type 0 where
   pub fits : ¬ Passes Add factor product
 
 -- r is what stands afterwards in another row k and column j
-abbrev pub IsMade : Table → ℕ → ℕ → ℕ → ℕ → Ratio → Type 0
-IsMade t b q k j r = (j ≡ q → IsLeaving t b q k r) × (j ≢ q → IsRest t b q k j r)
+abbrev pub IsOtherEntry : Table → ℕ → ℕ → ℕ → ℕ → Ratio → Type 0
+IsOtherEntry t b q k j r = (j ≡ q → IsLeaving t b q k r) × (j ≢ q → IsRest t b q k j r)
 
 -- the exchange of row b and column q makes the one table of the other
 pub record IsExchanged (t : Table) (b q : ℕ) (new : Table) : Type 0 where
   pub rows : new.rows ≡ t.rows
   pub columns : new.columns ≡ t.columns
   pub entering : (j : ℕ) (u : Ratio) → j < t.columns → Has new b j u → IsEntering t b q j u
-  pub others : (k j : ℕ) (r : Ratio) → k < t.rows → k ≢ b → j < t.columns → Has new k j r → IsMade t b q k j r
+  pub others : (k j : ℕ) (r : Ratio) → k < t.rows → k ≢ b → j < t.columns → Has new k j r → IsOtherEntry t b q k j r

@@ -1,7 +1,7 @@
 -- How far an exchange is written into another table.
 use Rattle.std.specs.Prelude.{◌≡◌, ◌≢◌, ℕ, ◌<◌, ◌*◌, pos, List, length}
 use Rattle.xc_model.specs.Ratio.{Ratio}
-use Rattle.xc_tableau.specs.Exchanges.{IsEntering, IsMade}
+use Rattle.xc_tableau.specs.Exchanges.{IsEntering, IsOtherEntry}
 use Rattle.xc_tableau.specs.Tables.{Table, Has}
 use Rattle.xc_tableau.specs.declared.pivoting.Pivot.{Pivot}
 
@@ -23,7 +23,7 @@ EnteringDone pivot entries n new = (j : ℕ) (u : Ratio) → j < n → Has (tabl
 
 -- the first n entries of row k are written
 abbrev pub RowDone : Pivot → List Ratio → ℕ → ℕ → List Ratio → Type 0
-RowDone pivot entries k n new = (j : ℕ) (r : Ratio) → j < n → Has (table pivot new) k j r → IsMade (table pivot entries) pivot.row pivot.column k j r
+RowDone pivot entries k n new = (j : ℕ) (r : Ratio) → j < n → Has (table pivot new) k j r → IsOtherEntry (table pivot entries) pivot.row pivot.column k j r
 
 -- row k has the factor 0 in column j
 abbrev pub HasZero : Table → ℕ → ℕ → Type 0
@@ -35,4 +35,4 @@ RowsKept pivot k old new = (i j : ℕ) (r : Ratio) → i ≢ k → j < pivot.col
 
 -- the first n rows but the pivot's are written
 abbrev pub OthersDone : Pivot → List Ratio → ℕ → List Ratio → Type 0
-OthersDone pivot entries n new = (k j : ℕ) (r : Ratio) → k < n → k ≢ pivot.row → j < pivot.columns → Has (table pivot new) k j r → IsMade (table pivot entries) pivot.row pivot.column k j r
+OthersDone pivot entries n new = (k j : ℕ) (r : Ratio) → k < n → k ≢ pivot.row → j < pivot.columns → Has (table pivot new) k j r → IsOtherEntry (table pivot entries) pivot.row pivot.column k j r

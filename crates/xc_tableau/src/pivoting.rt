@@ -2,7 +2,7 @@
 ghost use Rattle.std.specs.Prelude.{◌≡◌, ◌≢◌, ◌<◌, ◌+◌, ◌*◌, ◌^◌, ℕ, pos, IfOk, IfErr, OnOk, OnErr, IsTrue, ◌↔◌, length};
 ghost use Rattle.xc_corners.specs.Operations.{IsNegativeOf, IsProductFactor};
 ghost use Rattle.xc_frac.specs.declared.wide.Wide.{Wide};
-ghost use Rattle.xc_tableau.specs.Exchanges.{PassesIn, IsEntering, IsLeaving, IsMade, IsExchanged};
+ghost use Rattle.xc_tableau.specs.Exchanges.{PassesIn, IsEntering, IsLeaving, IsOtherEntry, IsExchanged};
 ghost use Rattle.xc_tableau.specs.Steps.{IsPivot, table, EnteringDone, HasZero, RowDone, RowsKept, OthersDone};
 ghost use Rattle.xc_tableau.specs.Tables.{Has};
 
@@ -47,13 +47,13 @@ fn fill_entering(entries: &[Frac], new: &mut [Frac], pivot: &Pivot) -> Result<()
     ensures passes { IfErr result (PassesIn (table pivot.now entries.now) pivot.now.row pivot.now.column) }
 {
     for column in 0..pivot.columns {
-        new[place(pivot.columns, pivot.row, column)] = entering(entries, pivot, column)?;
+        new[place(pivot.columns, pivot.row, column)] = entering_entry(entries, pivot, column)?;
     }
     Ok(())
 }
 
 // What stands afterwards in the pivot's row and a column.
-fn entering(entries: &[Frac], pivot: &Pivot, column: u32) -> Result<Frac, Wide>
+fn entering_entry(entries: &[Frac], pivot: &Pivot, column: u32) -> Result<Frac, Wide>
     requires pivot { IsPivot pivot.now entries.now }
     requires column { column < pivot.now.columns }
     ensures is { IfOk result (IsEntering (table pivot.now entries.now) pivot.now.row pivot.now.column column) }
@@ -62,11 +62,11 @@ fn entering(entries: &[Frac], pivot: &Pivot, column: u32) -> Result<Frac, Wide>
     if column == pivot.column {
         return ratio(1, 1).div(pivot.value);
     }
-    negative(entries[place(pivot.columns, pivot.row, column)]).div(pivot.value)
+    negative_of(entries[place(pivot.columns, pivot.row, column)]).div(pivot.value)
 }
 
 // Minus a number.
-fn negative(number: Frac) -> Frac
+fn negative_of(number: Frac) -> Frac
     ensures { IsNegativeOf number result }
 {
     number.neg()
@@ -117,7 +117,7 @@ fn fill_row(entries: &[Frac], new: &mut [Frac], pivot: &Pivot, row: u32) -> Resu
     }
     for column in 0..pivot.columns {
         let entering = new[place(pivot.columns, pivot.row, column)];
-        new[place(pivot.columns, row, column)] = made(
+        new[place(pivot.columns, row, column)] = other_entry(
             entries, pivot, row, column, factor, entering,
         )?;
     }
@@ -143,7 +143,7 @@ fn keep_row(entries: &[Frac], new: &mut [Frac], pivot: &Pivot, row: u32)
 }
 
 // What stands afterwards in another row and a column, where the entering row has the entry of this column.
-fn made(
+fn other_entry(
     entries: &[Frac],
     pivot: &Pivot,
     row: u32,
@@ -157,7 +157,7 @@ fn made(
     requires column { column < pivot.now.columns }
     requires factor { Has (table pivot.now entries.now) row pivot.now.column factor }
     requires entering { IsEntering (table pivot.now entries.now) pivot.now.row pivot.now.column column entering }
-    ensures is { IfOk result (IsMade (table pivot.now entries.now) pivot.now.row pivot.now.column row column) }
+    ensures is { IfOk result (IsOtherEntry (table pivot.now entries.now) pivot.now.row pivot.now.column row column) }
     ensures passes { IfErr result (PassesIn (table pivot.now entries.now) pivot.now.row pivot.now.column) }
 {
     let product = product(entries, pivot, row, column, factor, entering)?;

@@ -12,7 +12,7 @@ use Rattle.xc_cert.specs.Laws.{OneCertificate, OneFault, TextOrFault}
 use Rattle.xc_cert.specs.declared.fault.CertFault.TheVariants.{NotCertificate}
 use Rattle.xc_interval.specs.declared.mode.Mode.{Mode}
 use Rattle.xc_lines.specs.Judgements.{fact_id, judgement_line}
-use Rattle.xc_lines.specs.Lines.{printed}
+use Rattle.xc_lines.specs.Lines.{printed_text}
 use Rattle.xc_points.specs.Gathered.{AreEnds}
 use Rattle.xc_points.specs.Kept.{Gathered, HasFact}
 use Rattle.xc_points.specs.Laws.{HasOneEnds, HasOneRange}
@@ -100,7 +100,7 @@ module _ (f : ℕ → ℕ) (facts : List Fact) where
   judgement_renamed : (certificate : Certificate) (judgement : Judgement) → judgement_line (map (renamed_fact f) facts) certificate judgement ≡ judgement_line facts certificate judgement
   judgement_renamed certificate Accepted = refl
   judgement_renamed certificate (Misses what) = refl
-  judgement_renamed certificate (WideFact k) = ap (λ id. codes "too-wide fact " ++ decimal k ++ codes " " ++ printed id ++ codes "\n") (fact_id_renamed k)
+  judgement_renamed certificate (WideFact k) = ap (λ id. codes "too-wide fact " ++ decimal k ++ codes " " ++ printed_text id ++ codes "\n") (fact_id_renamed k)
   judgement_renamed certificate (TooWide what wide) = refl
 
 -- ---- answers

@@ -15,7 +15,7 @@ use Rattle.xc_report.specs.Renamed.{renamed_fact}
 use Rattle.xc_top.proofs.Renaming.{renamed_point}
 use Rattle.xc_top.specs.Findings.{AreVerdicts}
 use Rattle.xc_verdict.specs.Laws.{HasOneVerdict}
-use Rattle.xc_verdict.specs.Ranges.{named, SomeHas, EachHas, range_if, range_at}
+use Rattle.xc_verdict.specs.Ranges.{named_points, SomeHas, EachHas, range_if, range_at}
 use Rattle.xc_verdict.specs.Verdicts.{AdmitsAt, TermsAdmit, HasWide, HasEmpty, Agrees, CanBeJudged, IsVerdict}
 use Rattle.xc_bind.specs.Equation.{most_places}
 use Rattle.xc_interval.specs.Scales.{AreOnScale, greatest}
@@ -37,14 +37,14 @@ module _ (points others : List Point) (same : range_at points ≡ range_at other
   width_same : (binding : Binding) (d : ℕ) → width points binding d ≡ width others binding d
   width_same binding d = λ i.
       d * 10 ^ most_places binding.terms
-      + 10 ^ most_places binding.terms * greatest d (same i binding.total)
-      + terms_size_same (most_places binding.terms) d binding.terms i
+      + (10 ^ most_places binding.terms * greatest d (same i binding.total)
+      + terms_size_same (most_places binding.terms) d binding.terms i)
 
   on_scale : (binding : Binding) (d : ℕ) → IsCommonScale points binding d → IsCommonScale others binding d
-  on_scale binding d h = subst (λ (range : ℕ → Range). EachHas (λ k. AreOnScale d (range k)) (named binding)) same h
+  on_scale binding d h = subst (λ (range : ℕ → Range). EachHas (λ k. AreOnScale d (range k)) (named_points binding)) same h
 
   on_scale_back : (binding : Binding) (d : ℕ) → IsCommonScale others binding d → IsCommonScale points binding d
-  on_scale_back binding d h = subst (λ (range : ℕ → Range). EachHas (λ k. AreOnScale d (range k)) (named binding)) (sym same) h
+  on_scale_back binding d h = subst (λ (range : ℕ → Range). EachHas (λ k. AreOnScale d (range k)) (named_points binding)) (sym same) h
 
   narrow_same : (binding : Binding) → IsNarrowBinding points binding → IsNarrowBinding others binding
   narrow_same binding h = record {
@@ -64,11 +64,11 @@ record AreAlike (mode : Mode) (one : List Fact) (points : List Point) (other : L
 module _ (mode : Mode) (one : List Fact) (points : List Point) (other : List Fact) (others : List Point) (alike : AreAlike mode one points other others) where
   has_wide : (binding : Binding) → HasWide mode one points binding → HasWide mode other others binding
   has_wide binding h =
-      some_has (λ k. IsSomeAnd (slice_get points k) (λ point. IsWidePoint mode one point)) (λ k. IsSomeAnd (slice_get others k) (λ point. IsWidePoint mode other point)) alike.wide (named binding) h
+      some_has (λ k. IsSomeAnd (slice_get points k) (λ point. IsWidePoint mode one point)) (λ k. IsSomeAnd (slice_get others k) (λ point. IsWidePoint mode other point)) alike.wide (named_points binding) h
 
   has_empty : (binding : Binding) → HasEmpty mode one points binding → HasEmpty mode other others binding
   has_empty binding h =
-      some_has (λ k. IsSomeAnd (slice_get points k) (λ point. IsEmptyPoint mode one point)) (λ k. IsSomeAnd (slice_get others k) (λ point. IsEmptyPoint mode other point)) alike.empty (named binding) h
+      some_has (λ k. IsSomeAnd (slice_get points k) (λ point. IsEmptyPoint mode one point)) (λ k. IsSomeAnd (slice_get others k) (λ point. IsEmptyPoint mode other point)) alike.empty (named_points binding) h
 
   terms_admit : (terms : List Term) (ps : List ℤ) (q : ℕ) → TermsAdmit mode one points terms ps q → TermsAdmit mode other others terms ps q
   terms_admit [] [] q h = h

@@ -21,7 +21,7 @@ use Rattle.xc_points.specs.Facts.{PointAdmits, IsWidePoint, IsEmptyPoint}
 use Rattle.xc_points.specs.Gathered.{IsRange}
 use Rattle.xc_points.specs.declared.types.Point.{Point}
 use Rattle.xc_report.specs.declared.reports.Fact.{Fact}
-use Rattle.xc_verdict.specs.Ranges.{named, point_of, range_at, EachHas}
+use Rattle.xc_verdict.specs.Ranges.{named_points, point_of, range_at, EachHas}
 use Rattle.xc_verdict.specs.Steps.Sums.{IsWideRange, IsEmptyRange, IsMetRange, IsSomeInterval, Has, IsShared, IsFound, AllAreMet}
 use Rattle.xc_verdict.specs.Verdicts.{AdmitsAt, TermsAdmit, HasWide, HasEmpty, Agrees, CanBeJudged, IsVerdict}
 use Rattle.xc_verdict.specs.Widths.{IsNarrowBinding}
@@ -58,7 +58,7 @@ met_not_wide (range.Meets i) met wide = cc
 
 module _ (tell : EndsTell IsBelow SameNumber) (mode : Mode) (facts : List Fact) (points : List Point)
     (are : (k : ℕ) (point : Point) → slice_get points k ≡ Some point → IsRange mode facts point point.range)
-    (binding : Binding) (there : EachHas (λ k. k < length points) (named binding)) where
+    (binding : Binding) (there : EachHas (λ k. k < length points) (named_points binding)) where
   abbrev PointIsWide : ℕ → Type 0
   PointIsWide k = IsSomeAnd (slice_get points k) (λ point. IsWidePoint mode facts point)
 
@@ -89,13 +89,13 @@ module _ (tell : EndsTell IsBelow SameNumber) (mode : Mode) (facts : List Fact) 
       let found = range_number tell (range_at points k) met in
       not_empty (slice_get points k) found.0 empty ((number_admits k met found.0).1 found.1)
 
-  none_wide : AllAreMet points (named binding) → ¬ HasWide mode facts points binding
-  none_wide met some = none_of_each PointIsWide (λ k. IsMetRange (range_at points k)) met_not_wide_point (named binding) met some
+  none_wide : AllAreMet points (named_points binding) → ¬ HasWide mode facts points binding
+  none_wide met some = none_of_each PointIsWide (λ k. IsMetRange (range_at points k)) met_not_wide_point (named_points binding) met some
 
-  none_empty : AllAreMet points (named binding) → ¬ HasEmpty mode facts points binding
-  none_empty met some = none_of_each PointIsEmpty (λ k. IsMetRange (range_at points k)) met_not_empty_point (named binding) met some
+  none_empty : AllAreMet points (named_points binding) → ¬ HasEmpty mode facts points binding
+  none_empty met some = none_of_each PointIsEmpty (λ k. IsMetRange (range_at points k)) met_not_empty_point (named_points binding) met some
 
-  judged : AllAreMet points (named binding) → IsNarrowBinding points binding → CanBeJudged mode facts points binding
+  judged : AllAreMet points (named_points binding) → IsNarrowBinding points binding → CanBeJudged mode facts points binding
   judged met narrow = record { none_wide = none_wide met; none_empty = none_empty met; narrow = narrow }
 
   -- values by the facts and by the ranges
@@ -112,7 +112,7 @@ module _ (tell : EndsTell IsBelow SameNumber) (mode : Mode) (facts : List Fact) 
   terms_admit q p (term ∷ terms) [] met have = absurd have
   terms_admit q p (term ∷ terms) (v ∷ values) met have = ((number_admits term.point met.0 (ratio v q p)).1 have.0, terms_admit q p terms values met.1 have.1)
 
-  agrees : AllAreMet points (named binding) → (x : Fraction) → IsShared points binding x → Agrees mode facts points binding
+  agrees : AllAreMet points (named_points binding) → (x : Fraction) → IsShared points binding x → Agrees mode facts points binding
   agrees met x shared =
       let a = added_of_shared points binding x shared in
       record {
@@ -125,7 +125,7 @@ module _ (tell : EndsTell IsBelow SameNumber) (mode : Mode) (facts : List Fact) 
         adds = a.adds;
       }
 
-  added : AllAreMet points (named binding) → Agrees mode facts points binding → Adds points binding
+  added : AllAreMet points (named_points binding) → Agrees mode facts points binding → Adds points binding
   added met a = record {
     over = a.over;
     positive = a.positive;
@@ -136,18 +136,18 @@ module _ (tell : EndsTell IsBelow SameNumber) (mode : Mode) (facts : List Fact) 
     adds = a.adds;
   }
 
-  not_agrees : AllAreMet points (named binding) → ((x : Fraction) → ¬ IsShared points binding x) → ¬ Agrees mode facts points binding
+  not_agrees : AllAreMet points (named_points binding) → ((x : Fraction) → ¬ IsShared points binding x) → ¬ Agrees mode facts points binding
   not_agrees met none a =
       let values = added met a in
       none (ratio values.total values.over values.positive) (shared_of_added points binding values)
 
   -- what the ranges tell is the verdict
   pub verdict_of : (v : Verdict) → IsFound points binding v → IsVerdict mode facts points binding v
-  verdict_of TooWide (inl wide) = inl (some_of_some (λ k. IsWideRange (range_at points k)) PointIsWide (λ k. k < length points) wide_of_range (named binding) there wide)
+  verdict_of TooWide (inl wide) = inl (some_of_some (λ k. IsWideRange (range_at points k)) PointIsWide (λ k. k < length points) wide_of_range (named_points binding) there wide)
   verdict_of TooWide (inr passed) = inr (record { none_wide = none_wide passed.0; none_empty = none_empty passed.0; passed = passed.1 })
   verdict_of Unjudged found = (
-    λ wide. found.0 (some_of_some PointIsWide (λ k. IsWideRange (range_at points k)) (λ k. k < length points) range_of_wide (named binding) there wide),
-    some_of_some (λ k. IsEmptyRange (range_at points k)) PointIsEmpty (λ k. k < length points) empty_of_range (named binding) there found.1,
+    λ wide. found.0 (some_of_some PointIsWide (λ k. IsWideRange (range_at points k)) (λ k. k < length points) range_of_wide (named_points binding) there wide),
+    some_of_some (λ k. IsEmptyRange (range_at points k)) PointIsEmpty (λ k. k < length points) empty_of_range (named_points binding) there found.1,
   )
   verdict_of Consistent found = (judged found.0 found.1, agrees found.0 found.2.0 found.2.1)
   verdict_of Inconsistent found = (judged found.0 found.1, not_agrees found.0 found.2)

@@ -14,7 +14,7 @@ use Rattle.xc_interval.specs.Ranges.{IsRangeOf}
 use Rattle.xc_points.specs.Kept.{AreKept, ends_of}
 use Rattle.xc_points.specs.declared.types.Point.{Point}
 use Rattle.xc_bind.specs.Placed.{IsInside}
-use Rattle.xc_verdict.specs.Ranges.{named, point_of, range_if, range_at, EachHas}
+use Rattle.xc_verdict.specs.Ranges.{named_points, point_of, range_if, range_at, EachHas}
 use Rattle.xc_verdict.specs.Steps.Sums.{IsKeptRange, Has, Holds, IsSumOf, IsShared}
 
 -- the points that a binding names are there
@@ -22,7 +22,7 @@ terms_there : (points : List Point) (terms : List Term) → All (IsInside points
 terms_there points [] inside = tt
 terms_there points (term ∷ terms) inside = (All-head (IsInside points) term terms inside, terms_there points terms (All-tail (IsInside points) term terms inside))
 
-pub all_there : (points : List Point) (binding : Binding) → binding.total < length points → All (IsInside points) binding.terms → EachHas (λ k. k < length points) (named binding)
+pub all_there : (points : List Point) (binding : Binding) → binding.total < length points → All (IsInside points) binding.terms → EachHas (λ k. k < length points) (named_points binding)
 all_there points binding total terms = (total, terms_there points binding.terms terms)
 
 -- the range that intervals give is an interval only where something lies in it

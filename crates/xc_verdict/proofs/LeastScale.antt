@@ -10,7 +10,7 @@ use Rattle.xc_bind.specs.declared.types.Term.{Term}
 use Rattle.xc_interval.specs.Laws.{HaveScales, ScalesGrow}
 use Rattle.xc_interval.specs.Scales.{AreOnScale, IsMultipleOf, IsNoneBelow}
 use Rattle.xc_points.specs.declared.types.Point.{Point}
-use Rattle.xc_verdict.specs.Ranges.{named, point_of, range_at, EachHas}
+use Rattle.xc_verdict.specs.Ranges.{named_points, point_of, range_at, EachHas}
 use Rattle.xc_verdict.specs.Widths.{IsCommonScale, IsLeastScale}
 
 -- the multiples of d that are on the scale of what is left are the common ones of all
@@ -32,7 +32,7 @@ module _ (some : HaveScales) (grow : ScalesGrow) (points : List Point) where
       (one.0 * more.0, (mul-pos one.1.0 more.1.0, (grow (range_at points k) one.0 (one.0 * more.0) (dvd-mul_right one.0 more.0) one.1.1, each_more ks more.0 (one.0 * more.0) (dvd-mul_left more.0 one.0) more.1.1)))
 
   pub least_positive : (binding : Binding) (d : ℕ) → IsLeastScale points binding d → 0 < d
-  least_positive binding d least = let all = all_scale (named binding) in pos_of_dvd_of_pos (least.least all.0 all.1.1) all.1.0
+  least_positive binding d least = let all = all_scale (named_points binding) in pos_of_dvd_of_pos (least.least all.0 all.1.1) all.1.0
 
 module _ (points : List Point) (binding : Binding) where
   pub scaled_total : (d : ℕ) → IsMultipleOf 1 (λ m. AreOnScale m (range_at points binding.total)) d → Scaled points binding binding.terms d

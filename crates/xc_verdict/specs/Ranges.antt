@@ -11,8 +11,8 @@ abbrev pub point_of : Term → ℕ
 point_of term = term.point
 
 -- the numbers of the points of a total and its terms
-abbrev pub named : Binding → List ℕ
-named binding = binding.total ∷ map point_of binding.terms
+abbrev pub named_points : Binding → List ℕ
+named_points binding = binding.total ∷ map point_of binding.terms
 
 -- one of these numbers has the property
 abbrev pub SomeHas : (ℕ → Type 0) → List ℕ → Type 0

@@ -1,4 +1,5 @@
--- The verdict of a binding, from the facts of the report alone (Calculations 1.1: the consistency of a binding calculation).
+-- The verdict of a binding, told of the facts of the report (Calculations 1.1: the consistency of a binding calculation). Only whether the
+-- binding is narrow is told of the ends of its points' ranges.
 use Rattle.std.specs.Prelude.{ℕ, ℤ, ◌<◌, ◌⊎◌, List, [], ◌∷◌, IsSomeAnd, slice_get}
 use Rattle.xc_bind.specs.declared.types.Binding.{Binding}
 use Rattle.xc_bind.specs.declared.types.Term.{Term}
@@ -8,7 +9,7 @@ use Rattle.xc_interval.specs.declared.mode.Mode.{Mode}
 use Rattle.xc_points.specs.Facts.{PointAdmits, IsWidePoint, IsEmptyPoint}
 use Rattle.xc_points.specs.declared.types.Point.{Point}
 use Rattle.xc_report.specs.declared.reports.Fact.{Fact}
-use Rattle.xc_verdict.specs.Ranges.{named, SomeHas}
+use Rattle.xc_verdict.specs.Ranges.{named_points, SomeHas}
 use Rattle.xc_bind.specs.Equation.{AddsUp}
 use Rattle.xc_verdict.specs.Widths.{IsNarrowBinding}
 
@@ -26,11 +27,11 @@ module _ (mode : Mode) (facts : List Fact) (points : List Point) where
 
   -- a fact of a point that the binding names is wide
   abbrev pub HasWide : Binding → Type 0
-  HasWide binding = SomeHas (λ k. IsSomeAnd (slice_get points k) (λ point. IsWidePoint mode facts point)) (named binding)
+  HasWide binding = SomeHas (λ k. IsSomeAnd (slice_get points k) (λ point. IsWidePoint mode facts point)) (named_points binding)
 
   -- for a point that the binding names, no number is admitted by all its facts
   abbrev pub HasEmpty : Binding → Type 0
-  HasEmpty binding = SomeHas (λ k. IsSomeAnd (slice_get points k) (λ point. IsEmptyPoint mode facts point)) (named binding)
+  HasEmpty binding = SomeHas (λ k. IsSomeAnd (slice_get points k) (λ point. IsEmptyPoint mode facts point)) (named_points binding)
 
   -- values exist, one that all facts of the total's point may stand for and one for each term that all facts of its point may
   -- stand for, such that the total's is the sum of the terms', each times its weight: whole numbers over one positive number

@@ -4,7 +4,7 @@ ghost use Rattle.xc_interval.specs.declared.mode.Mode.{Mode};
 ghost use Rattle.xc_points.specs.Gathered.{ArePoints};
 ghost use Rattle.xc_report.specs.declared.reports.Fact.{Fact};
 ghost use Rattle.xc_bind.specs.Placed.{IsInside};
-ghost use Rattle.xc_verdict.specs.Ranges.{named, range_at};
+ghost use Rattle.xc_verdict.specs.Ranges.{named_points, range_at};
 ghost use Rattle.xc_verdict.specs.Steps.Sums.{IsKeptRange, AllAreMet, IsShared, IsFound};
 ghost use Rattle.xc_verdict.specs.Verdicts.{IsVerdict};
 ghost use Rattle.xc_verdict.specs.Widths.{IsNarrowBinding};
@@ -39,11 +39,11 @@ pub fn verdict(binding: &Binding, points: &Points) -> Verdict
         → IsVerdict mode facts points.now.points binding.now result }
 {
     laws::ends_tell();
-    judged(binding, points.as_slice())
+    verdict_by_ranges(binding, points.as_slice())
 }
 
 // The verdict, by the ranges of the points.
-fn judged(binding: &Binding, points: &[Point]) -> Verdict
+fn verdict_by_ranges(binding: &Binding, points: &[Point]) -> Verdict
     requires total { binding.now.total < length points.now }
     requires terms { All (IsInside points.now) binding.now.terms }
     requires kept { (k : ℕ) → k < length points.now → IsKeptRange (range_at points.now k) }
@@ -66,7 +66,7 @@ fn judged(binding: &Binding, points: &[Point]) -> Verdict
 fn is_apart(binding: &Binding, points: &[Point]) -> bool
     requires total { binding.now.total < length points.now }
     requires terms { All (IsInside points.now) binding.now.terms }
-    requires met { AllAreMet points.now (named binding.now) }
+    requires met { AllAreMet points.now (named_points binding.now) }
     requires narrow { IsNarrowBinding points.now binding.now }
     ensures { TellsNone result (IsShared points.now binding.now) }
 {

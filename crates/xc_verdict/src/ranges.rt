@@ -2,7 +2,7 @@
 ghost use Rattle.std.specs.Prelude.{◌≡◌, ◌<◌, ◌↔◌, ℕ, length, map, All, IsTrue, IfSome, IfNone};
 ghost use Rattle.xc_interval.specs.declared.range.Range.TheVariants as range;
 ghost use Rattle.xc_bind.specs.Placed.{IsInside};
-ghost use Rattle.xc_verdict.specs.Ranges.{named, point_of, range_at};
+ghost use Rattle.xc_verdict.specs.Ranges.{named_points, point_of, range_at};
 ghost use Rattle.xc_verdict.specs.Steps.Sums.{IsMetRange, IsKeptRange, IsSomeInterval, SomeIsWide, SomeIsEmpty, AllAreMet, IsFound};
 
 use xc_bind::{Binding, Term, Verdict};
@@ -38,7 +38,7 @@ pub fn hindrance(binding: &Binding, points: &[Point]) -> Option<Verdict>
     requires terms { All (IsInside points.now) binding.now.terms }
     requires kept { (k : ℕ) → k < length points.now → IsKeptRange (range_at points.now k) }
     ensures some { IfSome result (IsFound points.now binding.now) }
-    ensures none { IfNone result (AllAreMet points.now (named binding.now)) }
+    ensures none { IfNone result (AllAreMet points.now (named_points binding.now)) }
 {
     let terms = binding.terms.as_slice();
     let total = range_at(points, binding.total);

@@ -23,16 +23,16 @@ pub fn sum_of(binding: &Binding, points: &[Point]) -> Interval<Frac>
     ensures { Holds result (IsSumOf points.now binding.now.terms) }
 {
     laws::scales();
-    let mut sum = nothing();
+    let mut sum = zero_interval();
     for term in binding.terms.as_slice() {
         let interval = interval_at(points, term.point);
-        sum = plus(&sum, &weighted(&interval, term.weight));
+        sum = plus(&sum, &times_weight(&interval, term.weight));
     }
     sum
 }
 
 // The interval of 0 alone.
-fn nothing() -> Interval<Frac>
+fn zero_interval() -> Interval<Frac>
     ensures numbers { Holds result (λ x. SameNumber x (whole (pos 0))) }
     ensures counted { (unit : ℕ) → 0 < unit → AreCounted unit 0 result }
     ensures some { IsSomeInterval result }
@@ -61,7 +61,7 @@ fn plus(one: &Interval<Frac>, other: &Interval<Frac>) -> Interval<Frac>
 }
 
 // An interval times a weight. Weights of 1 and -1 cost no multiplication.
-fn weighted(interval: &Interval<Frac>, weight: Decimal) -> Interval<Frac>
+fn times_weight(interval: &Interval<Frac>, weight: Decimal) -> Interval<Frac>
     requires some { IsSomeInterval interval.now }
     requires room { HasRoomTimes interval.now weight }
     ensures numbers { Holds result (IsWeighted weight (HasNumber (numbers_of interval.now))) }
@@ -76,9 +76,9 @@ fn weighted(interval: &Interval<Frac>, weight: Decimal) -> Interval<Frac>
     }
     if is_whole(weight, 0) {
         laws::ends_tell();
-        return nothing();
+        return zero_interval();
     }
-    multiplied(interval, weight)
+    times_nonzero_weight(interval, weight)
 }
 
 // Whether a weight is this whole number.
@@ -89,7 +89,7 @@ fn is_whole(weight: Decimal, number: i128) -> bool
 }
 
 // An interval times a weight other than 0.
-fn multiplied(interval: &Interval<Frac>, weight: Decimal) -> Interval<Frac>
+fn times_nonzero_weight(interval: &Interval<Frac>, weight: Decimal) -> Interval<Frac>
     requires some { IsSomeInterval interval.now }
     requires not_zero { weight.digits ≢ pos 0 }
     requires room { HasRoomTimes interval.now weight }

@@ -96,7 +96,7 @@ fn are_inside(terms: &[Term], count: usize) -> bool
     true
 }
 
-fn judged(
+fn verdict_of(
     rt: &impl Abort,
     alloc: Global,
     mode: Mode,
@@ -259,7 +259,7 @@ fn verdicts(rt: HostRuntime) -> Result<(), Fail> {
             no,
         ),
     ] {
-        let told = judged(&rt, rt.alloc(), mode, facts, total, terms)?;
+        let told = verdict_of(&rt, rt.alloc(), mode, facts, total, terms)?;
         assert_eq!(rt; told, want, "{facts} {total} {terms}");
     }
     laws::one_verdict();

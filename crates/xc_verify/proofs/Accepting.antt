@@ -14,7 +14,7 @@ use Rattle.xc_system.specs.Kept.{Multipliers, IsRefutation}
 use Rattle.xc_system.specs.Laws.{ExcludesSolutions}
 use Rattle.xc_lists.specs.Members.{IsIn}
 use Rattle.xc_system.specs.Refutations.{IsContradiction, IsShort, coefficient, constant}
-use Rattle.xc_system.specs.Solutions.{IsZero, Admits, Holds, Solves, weighed}
+use Rattle.xc_system.specs.Solutions.{IsZero, Admits, Holds, Solves, sum_over_entries}
 use Rattle.xc_system.specs.Systems.{Constraints, IsSystem, equation_at, facts_of, range_at}
 use Rattle.xc_system.specs.declared.types.Bound.{Bound}
 use Rattle.xc_system.specs.declared.types.Certificate.{Certificate}
@@ -23,7 +23,7 @@ use Rattle.xc_system.specs.declared.types.Equation.{Equation}
 use Rattle.xc_model.proofs.Signs.{negative_same, zero_same}
 use Rattle.xc_verify.proofs.Amounts.{amount, ends_worth, equation_worth, coefficient_worth, constant_worth}
 use Rattle.xc_verify.proofs.Known.{bindings_there, lows_known, highs_known}
-use Rattle.xc_verify.specs.Feasible.{assigned, equation_terms, IsMetInside, AreValuesMet}
+use Rattle.xc_verify.specs.Feasible.{assignment_of, equation_terms, IsMetInside, AreValuesMet}
 use Rattle.xc_verify.specs.Infeasible.{coefficient_terms, constant_terms, FallsShort, IsRefutationMet}
 use Rattle.xc_verify.specs.Judgements.{IsJudgement, IsMet, Proves}
 use Rattle.xc_verify.specs.Laws.{AcceptanceProves}
@@ -68,7 +68,7 @@ module _ (s : Constraints) (values : List Ratio) (ok : IsSystem s) (h : AreValue
       go true e z = eqb-true (length values) s.points e
       go false e z = absurd (nothing _ z)
 
-  admitted_at : (k : ℕ) (bound : Bound) → slice_get s.bounds k ≡ Some bound → Admits bound (assigned values bound.point)
+  admitted_at : (k : ℕ) (bound : Bound) → slice_get s.bounds k ≡ Some bound → Admits bound (assignment_of values bound.point)
   admitted_at k bound there = by bound.range (subst (λ (o : Option Bound). IsMetInside k values bound.point (option_map_or (λ b. b.range) o None) None) there here)
     where
       place : (i : ℕ) × (i < length (facts_of s.bounds bound.point)) × (slice_index (facts_of s.bounds bound.point) i ≡ k)
@@ -80,15 +80,15 @@ module _ (s : Constraints) (values : List Ratio) (ok : IsSystem s) (h : AreValue
       here : IsMetInside k values bound.point (range_at s.bounds k) None
       here = subst (λ (j : ℕ). IsMetInside j values bound.point (range_at s.bounds j) None) place.2 (h.1.0 bound.point within place.0 place.1)
 
-      by : (o : Option (Interval Ratio)) → IsMetInside k values bound.point o None → IsSomeAnd o (λ interval. HasNumber (numbers_of interval) (assigned values bound.point))
+      by : (o : Option (Interval Ratio)) → IsMetInside k values bound.point o None → IsSomeAnd o (λ interval. HasNumber (numbers_of interval) (assignment_of values bound.point))
       by None z = absurd (nothing _ z)
       by (Some i) z = z
 
-  holds_at : (i : ℕ) (equation : Equation) → slice_get s.equations i ≡ Some equation → Holds equation (assigned values)
-  holds_at i equation there = zero_same (amount (equation_terms values equation.entries)) (weighed equation.entries (assigned values)) (equation_worth values equation.entries)
+  holds_at : (i : ℕ) (equation : Equation) → slice_get s.equations i ≡ Some equation → Holds equation (assignment_of values)
+  holds_at i equation there = zero_same (amount (equation_terms values equation.entries)) (sum_over_entries equation.entries (assignment_of values)) (equation_worth values equation.entries)
       (subst (λ (e : Equation). IsZero (amount (equation_terms values e.entries))) (get_or_from_slice_get s.equations i equation (record { entries = [] }) there) (summed (Binding i) (equation_terms values (equation_at s.equations i).entries) (h.1.1 i (slice_get_within s.equations i equation there))))
 
-  pub values_solve : (length values ≡ s.points) × Solves s (assigned values)
+  pub values_solve : (length values ≡ s.points) × Solves s (assignment_of values)
   values_solve = (counted, record { admitted = admitted_at; met = holds_at })
 
 module _ (s : Constraints) (r : Multipliers) (kept : IsRefutation r) (h : IsRefutationMet s r None) where

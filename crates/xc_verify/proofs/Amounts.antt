@@ -14,13 +14,13 @@ use Rattle.xc_model.specs.Fraction.{Fraction, SameNumber, whole, neg_of, sum_of,
 use Rattle.xc_model.specs.Ratio.{Ratio, fraction_of}
 use Rattle.xc_system.specs.Kept.{Multipliers}
 use Rattle.xc_system.specs.Refutations.{total, unit_at, low_at, high_at, coefficient, constant}
-use Rattle.xc_system.specs.Solutions.{weighed}
+use Rattle.xc_system.specs.Solutions.{sum_over_entries}
 use Rattle.xc_system.specs.Systems.{Constraints, equation_at, point_at, range_at}
 use Rattle.xc_system.specs.declared.types.Bound.{Bound}
 use Rattle.xc_system.specs.declared.types.Entry.{Entry}
 use Rattle.xc_system.specs.declared.types.Equation.{Equation}
 use Rattle.xc_system.specs.declared.types.Side.TheVariants.{Low, High}
-use Rattle.xc_verify.specs.Feasible.{assigned, equation_terms}
+use Rattle.xc_verify.specs.Feasible.{assignment_of, equation_terms}
 use Rattle.xc_verify.specs.Infeasible.{Line, entry_terms, binding_terms, end_terms, coefficient_terms, value_terms, constant_terms}
 use Rattle.xc_verify.specs.Sums.{Term, plus, minus, plus_product, minus_product, zero_ratio, IsWith, IsSum, IsSumOf}
 
@@ -86,28 +86,28 @@ amount-append [] ys = same-sym _ _ (zero-sum (amount ys))
 amount-append (t ∷ ts) ys = same-trans _ _ _ (same-sum _ _ _ _ (same-refl (worth t)) (amount-append ts ys)) (same-sym _ _ (sum-assoc (worth t) (amount ts) (amount ys)))
 
 -- the terms of an equation are its sum over the values
-pub equation_worth : (values : List Ratio) (es : List Entry) → SameNumber (amount (equation_terms values es)) (weighed es (assigned values))
+pub equation_worth : (values : List Ratio) (es : List Entry) → SameNumber (amount (equation_terms values es)) (sum_over_entries es (assignment_of values))
 equation_worth values [] = same-refl (whole (pos 0))
 equation_worth values (e ∷ es) = go (slice_get values e.point) (equation_worth values es)
   where
-    go : (o : Option Ratio) → SameNumber (amount (equation_terms values es)) (weighed es (assigned values))
-        → SameNumber (amount (cons_option (option_map (plus_product e.weight) o) (equation_terms values es))) (sum_of (product_of (fraction_of e.weight) (option_map_or (λ value. fraction_of value) o (whole (pos 0)))) (weighed es (assigned values)))
+    go : (o : Option Ratio) → SameNumber (amount (equation_terms values es)) (sum_over_entries es (assignment_of values))
+        → SameNumber (amount (cons_option (option_map (plus_product e.weight) o) (equation_terms values es))) (sum_of (product_of (fraction_of e.weight) (option_map_or (λ value. fraction_of value) o (whole (pos 0)))) (sum_over_entries es (assignment_of values)))
     go None h = no_more (fraction_of e.weight) _ _ h
     go (Some v) h = same-sum _ _ _ _ (same-refl (product_of (fraction_of e.weight) (fraction_of v))) h
 
 -- the terms for a point are how often it counts
-entry_worth : (f : Ratio) (p : ℕ) (es : List Entry) → SameNumber (amount (entry_terms f es p)) (product_of (fraction_of f) (weighed es (unit_at p)))
+entry_worth : (f : Ratio) (p : ℕ) (es : List Entry) → SameNumber (amount (entry_terms f es p)) (product_of (fraction_of f) (sum_over_entries es (unit_at p)))
 entry_worth f p [] = same-sym _ _ (product-zero (fraction_of f))
 entry_worth f p (e ∷ es) = go (e.point == p) (entry_worth f p es)
   where
-    go : (b : Bool) → SameNumber (amount (entry_terms f es p)) (product_of (fraction_of f) (weighed es (unit_at p)))
+    go : (b : Bool) → SameNumber (amount (entry_terms f es p)) (product_of (fraction_of f) (sum_over_entries es (unit_at p)))
         → SameNumber (amount (map (λ entry. plus_product f entry.weight) (cond b (e ∷ filter (λ entry. entry.point == p) es) (filter (λ entry. entry.point == p) es))))
-        (product_of (fraction_of f) (sum_of (product_of (fraction_of e.weight) (cond b (whole (pos 1)) (whole (pos 0)))) (weighed es (unit_at p))))
+        (product_of (fraction_of f) (sum_of (product_of (fraction_of e.weight) (cond b (whole (pos 1)) (whole (pos 0)))) (sum_over_entries es (unit_at p))))
     go true h = same-trans _ _ _ (same-sum _ _ _ _ (same-product _ _ _ _ (same-refl (fraction_of f)) (same-sym _ _ (product-one (fraction_of e.weight)))) h)
-        (same-sym _ _ (product-sum (fraction_of f) (product_of (fraction_of e.weight) (whole (pos 1))) (weighed es (unit_at p))))
-    go false h = same-trans _ _ _ h (same-product _ _ _ _ (same-refl (fraction_of f)) (no_more (fraction_of e.weight) _ _ (same-refl (weighed es (unit_at p)))))
+        (same-sym _ _ (product-sum (fraction_of f) (product_of (fraction_of e.weight) (whole (pos 1))) (sum_over_entries es (unit_at p))))
+    go false h = same-trans _ _ _ h (same-product _ _ _ _ (same-refl (fraction_of f)) (no_more (fraction_of e.weight) _ _ (same-refl (sum_over_entries es (unit_at p)))))
 
-binding_worth : (equations : List Equation) (p : ℕ) (ms : List Line) → SameNumber (amount (binding_terms equations ms p)) (total ms (λ i. weighed (equation_at equations i).entries (unit_at p)))
+binding_worth : (equations : List Equation) (p : ℕ) (ms : List Line) → SameNumber (amount (binding_terms equations ms p)) (total ms (λ i. sum_over_entries (equation_at equations i).entries (unit_at p)))
 binding_worth equations p [] = same-refl (whole (pos 0))
 binding_worth equations p (m ∷ ms) = same-trans _ _ _ (amount-append (entry_terms m.1 (equation_at equations m.0).entries p) (binding_terms equations ms p)) (same-sum _ _ _ _ (entry_worth m.1 p (equation_at equations m.0).entries) (binding_worth equations p ms))
 

@@ -18,7 +18,7 @@ use Rattle.xc_lists.proofs.Members.{in_places, is_in_at}
 use Rattle.xc_system.specs.Kept.{Multipliers}
 use Rattle.xc_lists.specs.Members.{IsIn}
 use Rattle.xc_system.specs.Refutations.{IsContradiction, IsKnown, IsShort, coefficient, constant}
-use Rattle.xc_system.specs.Solutions.{Solves, weighed}
+use Rattle.xc_system.specs.Solutions.{Solves, sum_over_entries}
 use Rattle.xc_system.specs.Systems.{Constraints, equation_at, facts_of, range_at}
 use Rattle.xc_system.specs.declared.types.Bound.{Bound}
 use Rattle.xc_system.specs.declared.types.Certificate.{Certificate}
@@ -27,7 +27,7 @@ use Rattle.xc_system.specs.declared.types.Equation.{Equation}
 use Rattle.xc_model.proofs.Signs.{negative_same, zero_same}
 use Rattle.xc_verify.proofs.Known.{fact_of_point}
 use Rattle.xc_verify.proofs.Amounts.{ends_worth, equation_worth, coefficient_worth, constant_worth}
-use Rattle.xc_verify.specs.Feasible.{IsMetInside, IsMetAtPoint, assigned, count_objection, equation_terms}
+use Rattle.xc_verify.specs.Feasible.{IsMetInside, IsMetAtPoint, assignment_of, count_objection, equation_terms}
 use Rattle.xc_verify.specs.Infeasible.{FallsShort, Line, binding_objection, coefficient_terms, constant_terms, fact_objection, line_objection}
 use Rattle.xc_verify.specs.Judgements.{IsMet, IsJudgement, IsTooWide, Proves}
 use Rattle.xc_verify.specs.Objections.{IsFirstOf, IsFirstBelow, IsMetAt, IsMetIn, IsNothing}
@@ -73,32 +73,32 @@ never_sum what R ts right o i h = go h.end h.sum h.is_met
     go (Err w) s m = passing o what w i m
 
 -- values that solve the system
-module _ (s : Constraints) (values : List Ratio) (count : length values ≡ s.points) (solves : Solves s (assigned values)) where
+module _ (s : Constraints) (values : List Ratio) (count : length values ≡ s.points) (solves : Solves s (assignment_of values)) where
   counted : count_objection s.points values ≡ None
   counted = ap (λ (b : Bool). cond b None (Some (Misses (Point (min (length values) s.points))))) (eq-eqb (length values) s.points count)
 
   -- the interval of a fact has the value of its point
-  has : (k p : ℕ) → IsIn k (facts_of s.bounds p) → k < length s.bounds → IsSomeAnd (range_at s.bounds k) (λ interval. HasNumber (numbers_of interval) (assigned values p))
+  has : (k p : ℕ) → IsIn k (facts_of s.bounds p) → k < length s.bounds → IsSomeAnd (range_at s.bounds k) (λ interval. HasNumber (numbers_of interval) (assignment_of values p))
   has k p listed within = go (slice_get_cases s.bounds k).1
     where
-      go : ((b : Bound) × (k < length s.bounds) × (slice_get s.bounds k ≡ Some b) × (get_or s.bounds k b ≡ b)) ⊎ ((length s.bounds ≤ k) × (slice_get s.bounds k ≡ None)) → IsSomeAnd (range_at s.bounds k) (λ interval. HasNumber (numbers_of interval) (assigned values p))
+      go : ((b : Bound) × (k < length s.bounds) × (slice_get s.bounds k ≡ Some b) × (get_or s.bounds k b ≡ b)) ⊎ ((length s.bounds ≤ k) × (slice_get s.bounds k ≡ None)) → IsSomeAnd (range_at s.bounds k) (λ interval. HasNumber (numbers_of interval) (assignment_of values p))
       go (inl (b, l, there, at)) =
           let owner : b.point ≡ p = sym (get_or-map (λ (x : Bound). x.point) s.bounds k b 0 within ∙ ap (λ (x : Bound). x.point) at) ∙ (in_places (map (λ x. x.point) s.bounds) p k listed).1 in
-          subst (λ (o : Option Bound). IsSomeAnd (option_map_or (λ x. x.range) o None) (λ interval. HasNumber (numbers_of interval) (assigned values p))) (sym there)
-          (subst (λ (q : ℕ). IsSomeAnd b.range (λ interval. HasNumber (numbers_of interval) (assigned values q))) owner (solves.admitted k b there))
+          subst (λ (o : Option Bound). IsSomeAnd (option_map_or (λ x. x.range) o None) (λ interval. HasNumber (numbers_of interval) (assignment_of values p))) (sym there)
+          (subst (λ (q : ℕ). IsSomeAnd b.range (λ interval. HasNumber (numbers_of interval) (assignment_of values q))) owner (solves.admitted k b there))
       go (inr (past, none)) = absurd (omega (arith, past, within))
 
-  inside : (p i : ℕ) → i < length (facts_of s.bounds p) → IsSomeAnd (range_at s.bounds (slice_index (facts_of s.bounds p) i)) (λ interval. HasNumber (numbers_of interval) (assigned values p))
+  inside : (p i : ℕ) → i < length (facts_of s.bounds p) → IsSomeAnd (range_at s.bounds (slice_index (facts_of s.bounds p) i)) (λ interval. HasNumber (numbers_of interval) (assignment_of values p))
   inside p i h = has (slice_index (facts_of s.bounds p) i) p (is_in_at (facts_of s.bounds p) i h) (fact_of_point s.bounds p i h)
 
-  never_inside : (k p : ℕ) (range : Option (Interval Ratio)) → IsSomeAnd range (λ interval. HasNumber (numbers_of interval) (assigned values p)) → Never (IsMetInside k values p range)
+  never_inside : (k p : ℕ) (range : Option (Interval Ratio)) → IsSomeAnd range (λ interval. HasNumber (numbers_of interval) (assignment_of values p)) → Never (IsMetInside k values p range)
   never_inside k p None some o i m = absurd some
   never_inside k p (Some interval) has o i m = m.0 has
 
   balanced : (i : ℕ) → i < length s.equations → (x : Ratio) → IsSumOf (equation_terms values (equation_at s.equations i).entries) (Ok x) → IsNothing x
   balanced i h x sum =
       let es = (equation_at s.equations i).entries in
-      zero_same (weighed es (assigned values)) (fraction_of x) (same-sym _ _ (same-trans _ _ _ (ends_worth (equation_terms values es) x sum) (equation_worth values es)))
+      zero_same (sum_over_entries es (assignment_of values)) (fraction_of x) (same-sym _ _ (same-trans _ _ _ (ends_worth (equation_terms values es) x sum) (equation_worth values es)))
       (solves.met i (equation_at s.equations i) (slice_get-get_or s.equations i (record { entries = [] }) h))
 
   never_values : Never (IsMet s (Feasible values))
@@ -171,7 +171,7 @@ proof_accepted s c (judgement.WideFact f) h k = absurd (never_met s c k (WideFac
 proof_accepted s c (judgement.TooWide what w) h k = inr tt
 
 -- a proof is accepted where no sum passes
-module _ (s : Constraints) (values : List Ratio) (count : length values ≡ s.points) (solves : Solves s (assigned values)) where
+module _ (s : Constraints) (values : List Ratio) (count : length values ≡ s.points) (solves : Solves s (assignment_of values)) where
   pub solved_accepted : ((i : ℕ) → i < length s.equations → (x : Ratio) × IsSumOf (equation_terms values (equation_at s.equations i).entries) (Ok x)) → IsJudgement s (Feasible values) judgement.Accepted
   solved_accepted sums = (
     sym (counted s values count solves),
@@ -181,7 +181,7 @@ module _ (s : Constraints) (values : List Ratio) (count : length values ≡ s.po
     ),
   )
     where
-      met : (k p : ℕ) (range : Option (Interval Ratio)) → IsSomeAnd range (λ interval. HasNumber (numbers_of interval) (assigned values p)) → IsMetInside k values p range None
+      met : (k p : ℕ) (range : Option (Interval Ratio)) → IsSomeAnd range (λ interval. HasNumber (numbers_of interval) (assignment_of values p)) → IsMetInside k values p range None
       met k p None some = absurd some
       met k p (Some interval) has = has
 

@@ -16,8 +16,8 @@ use Rattle.xc_verify.specs.declared.types.Objection.TheVariants.{Misses, WideFac
 use Rattle.xc_verify.specs.declared.types.What.TheVariants.{Binding, Point}
 
 -- the assignment of these values, and of 0 to all further points
-abbrev pub assigned : List Ratio → Assignment
-assigned values p = option_map_or (λ value. fraction_of value) (slice_get values p) (whole (pos 0))
+abbrev pub assignment_of : List Ratio → Assignment
+assignment_of values p = option_map_or (λ value. fraction_of value) (slice_get values p) (whole (pos 0))
 
 -- what is met where there are more values or fewer than points
 abbrev pub count_objection : ℕ → List Ratio → Option Objection
@@ -26,8 +26,8 @@ count_objection points values = if length values == points then None else Some (
 -- what is met where a fact has this interval: that it is wide, or that the value of its point is outside
 abbrev pub IsMetInside : ℕ → List Ratio → ℕ → Option (Interval Ratio) → Option Objection → Type 0
 IsMetInside k values p None met = met ≡ Some (WideFact k)
-IsMetInside k values p (Some interval) None = HasNumber (numbers_of interval) (assigned values p)
-IsMetInside k values p (Some interval) (Some o) = (¬ HasNumber (numbers_of interval) (assigned values p)) × (o ≡ Misses (Point p))
+IsMetInside k values p (Some interval) None = HasNumber (numbers_of interval) (assignment_of values p)
+IsMetInside k values p (Some interval) (Some o) = (¬ HasNumber (numbers_of interval) (assignment_of values p)) × (o ≡ Misses (Point p))
 
 -- what is met first at the facts of a point, ascending
 abbrev pub IsMetAtPoint : List Bound → List Ratio → ℕ → Option Objection → Type 0

@@ -5,7 +5,7 @@ use Rattle.xc_system.specs.Solutions.{Assignment, Solves, MaySolve}
 use Rattle.xc_system.specs.Systems.{Constraints}
 use Rattle.xc_system.specs.declared.types.Certificate.{Certificate}
 use Rattle.xc_system.specs.declared.types.Certificate.TheVariants.{Feasible, Infeasible}
-use Rattle.xc_verify.specs.Feasible.{AreValuesMet, assigned}
+use Rattle.xc_verify.specs.Feasible.{AreValuesMet, assignment_of}
 use Rattle.xc_verify.specs.Infeasible.{IsRefutationMet}
 use Rattle.xc_verify.specs.Objections.{objection_of}
 use Rattle.xc_verify.specs.declared.types.Judgement.{Judgement}
@@ -26,7 +26,7 @@ IsJudgement s c j = IsMet s c (objection_of j)
 -- what a certificate claims of the system, told without a checker: it has a value for each point, and these solve it; or its
 -- multipliers contradict it, so that no assignment solves it, whatever a wide fact might stand for
 abbrev pub Proves : Constraints → Certificate → Type 0
-Proves s (Feasible values) = (length values ≡ s.points) × Solves s (assigned values)
+Proves s (Feasible values) = (length values ≡ s.points) × Solves s (assignment_of values)
 Proves s (Infeasible r) = IsContradiction s r × ((z : Assignment) → ¬ MaySolve s z)
 
 -- the judgement names an operation that passes 128 bits

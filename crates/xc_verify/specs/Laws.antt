@@ -8,7 +8,7 @@ use Rattle.xc_system.specs.Solutions.{Solves}
 use Rattle.xc_system.specs.Systems.{Constraints, IsSystem, equation_at}
 use Rattle.xc_system.specs.declared.types.Certificate.{Certificate}
 use Rattle.xc_system.specs.declared.types.Certificate.TheVariants.{Feasible, Infeasible}
-use Rattle.xc_verify.specs.Feasible.{assigned, equation_terms}
+use Rattle.xc_verify.specs.Feasible.{assignment_of, equation_terms}
 use Rattle.xc_verify.specs.Infeasible.{coefficient_terms, constant_terms}
 use Rattle.xc_verify.specs.Judgements.{IsJudgement, Proves}
 use Rattle.xc_verify.specs.Sums.{Term, IsSum, IsSumOf}
@@ -34,7 +34,7 @@ HasOneSum = (ts : List Term) (a b : Result Ratio Wide) → IsSumOf ts a → IsSu
 
 -- values that solve the system are accepted where no operation passes in the sums of its equations
 abbrev pub SolutionsAreAccepted : Type 0
-SolutionsAreAccepted = (s : Constraints) (values : List Ratio) → length values ≡ s.points → Solves s (assigned values)
+SolutionsAreAccepted = (s : Constraints) (values : List Ratio) → length values ≡ s.points → Solves s (assignment_of values)
     → ((i : ℕ) → i < length s.equations → (x : Ratio) × IsSumOf (equation_terms values (equation_at s.equations i).entries) (Ok x))
     → IsJudgement s (Feasible values) Accepted
 

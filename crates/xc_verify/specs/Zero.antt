@@ -4,6 +4,7 @@ use Rattle.std.proofs.Math.Nat.{eq-one_of_dvd-one}
 use Rattle.std.proofs.lemmas.Int.{ints}
 use Rattle.xc_model.specs.Ratio.{IsLowest}
 
+-- 0 over 1 is in lowest terms
 pub zero_lowest : IsLowest (pos 0) (pos 1)
 zero_lowest = record {
   positive = omega (arith, ints);

@@ -7,14 +7,14 @@ ghost use Rattle.xc_verify.specs.Sums.{IsSumOf};
 ghost use Rattle.xc_verify.specs.declared.types.What.TheVariants.{Binding};
 
 use crate::lines::interval_of;
-use crate::sums::{plus_product, unless_nothing, zero};
+use crate::sums::{objection_unless_zero, plus_product, zero};
 use crate::types::{Objection, What};
 use xc_frac::{Frac, Wide};
 use xc_interval::Interval;
 use xc_system::{Entry, System};
 
 /// What is met first in values.
-pub fn first_fault(system: &System, values: &[Frac]) -> Option<Objection>
+pub fn values_objection(system: &System, values: &[Frac]) -> Option<Objection>
     ensures met { AreValuesMet system.now values.now result }
     ensures system { IsSystem system.now }
 {
@@ -23,19 +23,19 @@ pub fn first_fault(system: &System, values: &[Frac]) -> Option<Objection>
         let point = values.len().min(points) as u32;
         return Some(Objection::Misses(What::Point(point)));
     }
-    if let Some(objection) = first_outside(system, values) {
+    if let Some(objection) = points_objection(system, values) {
         return Some(objection);
     }
-    first_unmet(system, values)
+    equations_objection(system, values)
 }
 
 // What is met first at the points.
-fn first_outside(system: &System, values: &[Frac]) -> Option<Objection>
+fn points_objection(system: &System, values: &[Frac]) -> Option<Objection>
     requires { length values.now ≡ system.now.points }
     ensures { IsFirstBelow system.now.points (IsMetAtPoint system.now.bounds values.now) result }
 {
     for point in 0..system.points() {
-        if let Some(objection) = outside(system, point, values) {
+        if let Some(objection) = point_objection(system, point, values) {
             return Some(objection);
         }
     }
@@ -43,13 +43,13 @@ fn first_outside(system: &System, values: &[Frac]) -> Option<Objection>
 }
 
 // What is met first at the facts of a point.
-fn outside(system: &System, point: u32, values: &[Frac]) -> Option<Objection>
+fn point_objection(system: &System, point: u32, values: &[Frac]) -> Option<Objection>
     requires point { point < system.now.points }
     requires values { length values.now ≡ system.now.points }
     ensures { IsMetAtPoint system.now.bounds values.now point result }
 {
     for fact in system.facts_of(point) {
-        if let Some(objection) = outside_fact(
+        if let Some(objection) = interval_objection(
             *fact,
             interval_of(*fact, system.bounds()),
             point,
@@ -62,7 +62,7 @@ fn outside(system: &System, point: u32, values: &[Frac]) -> Option<Objection>
 }
 
 // What is met at a fact with this interval.
-fn outside_fact(
+fn interval_objection(
     fact: u32,
     interval: Option<Interval<Frac>>,
     point: u32,
@@ -83,13 +83,13 @@ fn outside_fact(
 }
 
 // What is met first at the equations.
-fn first_unmet(system: &System, values: &[Frac]) -> Option<Objection>
+fn equations_objection(system: &System, values: &[Frac]) -> Option<Objection>
     requires { length values.now ≡ system.now.points }
     ensures { IsFirstBelow (length system.now.equations) (λ i met. IsMetIn (Binding i) IsNothing
         (equation_terms values.now (equation_at system.now.equations i).entries) met) result }
 {
     for number in 0..system.equations().len() {
-        if let Some(objection) = unmet(system, number as u32, values) {
+        if let Some(objection) = equation_objection(system, number as u32, values) {
             return Some(objection);
         }
     }
@@ -97,18 +97,18 @@ fn first_unmet(system: &System, values: &[Frac]) -> Option<Objection>
 }
 
 // What is met at an equation.
-fn unmet(system: &System, number: u32, values: &[Frac]) -> Option<Objection>
+fn equation_objection(system: &System, number: u32, values: &[Frac]) -> Option<Objection>
     requires number { number < length system.now.equations }
     requires values { length values.now ≡ system.now.points }
     ensures { IsMetIn (Binding number) IsNothing
         (equation_terms values.now (equation_at system.now.equations number).entries) result }
 {
-    unless_nothing(What::Binding(number), equation(system, number, values))
+    objection_unless_zero(What::Binding(number), equation_sum(system, number, values))
 }
 
 /// The sum of an equation over these values: for each entry in order the product of weight and value is added; or the
 /// first operation that passes 128 bits. There is a value for each point.
-pub fn equation(system: &System, number: u32, values: &[Frac]) -> Result<Frac, Wide>
+pub fn equation_sum(system: &System, number: u32, values: &[Frac]) -> Result<Frac, Wide>
     requires number { number < length system.now.equations }
     requires values { system.now.points ≤ length values.now }
     ensures { IsSumOf (equation_terms values.now (equation_at system.now.equations number).entries) result }

@@ -11,17 +11,17 @@ ghost use Rattle.xc_verify.specs.Steps.Running.{is_open_on, sum_at};
 ghost use Rattle.xc_verify.specs.Sums.{IsNext, IsSum, IsSumOf, Term};
 ghost use Rattle.xc_verify.specs.declared.types.What.TheVariants.{Constant, Point};
 
-use crate::lines::{first_unknown, interval_of};
+use crate::lines::{interval_of, line_objection};
 use crate::multiples::add_refutation;
 use crate::scratch::sum_at;
-use crate::sums::{minus_product, plus_product, unless_nothing, zero};
+use crate::sums::{minus_product, objection_unless_zero, plus_product, zero};
 use crate::types::{Objection, What};
 use xc_frac::{Frac, Wide};
 use xc_interval::Interval;
 use xc_system::{Bound, Refutation, Side, System};
 
 /// What is met first in a refutation. The lists are room for the sums of points.
-pub fn first_fault(
+pub fn refutation_objection(
     system: &System,
     refutation: &Refutation,
     sums: &mut [Frac],
@@ -33,18 +33,18 @@ pub fn first_fault(
     ensures system { IsSystem system.now }
     ensures kept { IsRefutation refutation.now }
 {
-    if let Some(objection) = first_unknown(system, refutation) {
+    if let Some(objection) = line_objection(system, refutation) {
         return Some(objection);
     }
     add_refutation(system, refutation, sums, stops);
-    if let Some(objection) = at_points(system, refutation, sums, stops) {
+    if let Some(objection) = coefficients_objection(system, refutation, sums, stops) {
         return Some(objection);
     }
-    at_constant(system, refutation)
+    constant_objection(system, refutation)
 }
 
 // What is met first at the points, whose coefficients these are.
-fn at_points(
+fn coefficients_objection(
     system: &System,
     refutation: &Refutation,
     sums: &[Frac],
@@ -60,7 +60,7 @@ fn at_points(
     // The multipliers have been added up: only the contract speaks of them.
     let _listed = refutation;
     for point in 0..system.points() {
-        if let Some(objection) = at_point(point, sums, stops) {
+        if let Some(objection) = coefficient_objection(point, sums, stops) {
             return Some(objection);
         }
     }
@@ -68,20 +68,20 @@ fn at_points(
 }
 
 // What is met at a point, whose coefficient this is.
-fn at_point(point: u32, sums: &[Frac], stops: &[Option<Wide>]) -> Option<Objection>
+fn coefficient_objection(point: u32, sums: &[Frac], stops: &[Option<Wide>]) -> Option<Objection>
     requires sums { point < length sums.now }
     requires stops { point < length stops.now }
     ensures { (terms : List Term) → IsSumOf terms (sum_at sums.now stops.now point)
         → IsMetIn (Point point) IsNothing terms result }
 {
-    unless_nothing(What::Point(point), sum_at(sums, stops, point))
+    objection_unless_zero(What::Point(point), sum_at(sums, stops, point))
 }
 
 // What is met at the constant.
-fn at_constant(system: &System, refutation: &Refutation) -> Option<Objection>
+fn constant_objection(system: &System, refutation: &Refutation) -> Option<Objection>
     ensures { IsMetIn Constant (FallsShort system.now refutation.now) (constant_terms system.now refutation.now) result }
 {
-    unless_short(system, refutation, constant(system, refutation))
+    objection_unless_short(system, refutation, constant(system, refutation))
 }
 
 /// The constant of a refutation: the value of each listed end times its multiplier, taken away for a low end and added for
@@ -94,7 +94,7 @@ pub fn constant(system: &System, refutation: &Refutation) -> Result<Frac, Wide>
 }
 
 // What is met at the end of the constant.
-fn unless_short(
+fn objection_unless_short(
     system: &System,
     refutation: &Refutation,
     sum: Result<Frac, Wide>,

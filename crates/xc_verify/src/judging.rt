@@ -2,7 +2,7 @@
 ghost use Rattle.std.specs.Prelude.{◌≡◌, ◌≤◌, ◌⊎◌, length};
 ghost use Rattle.xc_verify.specs.Judgements.{IsJudgement, IsTooWide, NamesKnown, Proves};
 
-use crate::types::{Judgement, judged};
+use crate::types::{Judgement, judgement_of};
 use crate::{feasible, infeasible};
 use xc_system::laws::contradictions_exclude;
 use xc_system::{Certificate, Scratch, System};
@@ -26,8 +26,11 @@ pub fn verify(system: &System, certificate: &Certificate, scratch: &mut Scratch)
 {
     contradictions_exclude();
     match certificate {
-        Certificate::Feasible(values) => judged(feasible::first_fault(system, values.as_slice())),
-        Certificate::Infeasible(refutation) => judged(infeasible::first_fault(
+        Certificate::Feasible(values) => judgement_of(feasible::values_objection(
+            system,
+            values.as_slice(),
+        )),
+        Certificate::Infeasible(refutation) => judgement_of(infeasible::refutation_objection(
             system,
             refutation,
             scratch.sums.as_mut_slice(),

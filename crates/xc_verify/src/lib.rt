@@ -11,7 +11,7 @@ mod scratch;
 mod sums;
 mod types;
 
-pub use feasible::equation;
+pub use feasible::equation_sum;
 pub use infeasible::constant;
 pub use judging::verify;
 pub use types::{Judgement, Objection, What};

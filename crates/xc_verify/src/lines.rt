@@ -12,26 +12,26 @@ use xc_system::{Bound, Equation, Refutation, System};
 
 /// What is met first at the lines of a refutation, in order: a binding or a fact that the system does not have, or a
 /// fact that is wide.
-pub fn first_unknown(system: &System, refutation: &Refutation) -> Option<Objection>
+pub fn line_objection(system: &System, refutation: &Refutation) -> Option<Objection>
     ensures met { result ≡ line_objection system.now refutation.now }
     ensures system { IsSystem system.now }
     ensures kept { IsRefutation refutation.now }
 {
-    if let Some(objection) = first_missing(refutation.bindings(), system.equations()) {
+    if let Some(objection) = first_binding_objection(refutation.bindings(), system.equations()) {
         return Some(objection);
     }
-    if let Some(objection) = first_unknown_fact(refutation.lows(), system.bounds()) {
+    if let Some(objection) = first_fact_objection(refutation.lows(), system.bounds()) {
         return Some(objection);
     }
-    first_unknown_fact(refutation.highs(), system.bounds())
+    first_fact_objection(refutation.highs(), system.bounds())
 }
 
 // The first binding that the system does not have.
-fn first_missing(lines: &[(u32, Frac)], equations: &[Equation]) -> Option<Objection>
+fn first_binding_objection(lines: &[(u32, Frac)], equations: &[Equation]) -> Option<Objection>
     ensures { result ≡ first_given (λ m. binding_objection equations.now m.0) lines.now }
 {
     for (number, _factor) in lines {
-        if let Some(objection) = missing(*number, equations) {
+        if let Some(objection) = binding_objection(*number, equations) {
             return Some(objection);
         }
     }
@@ -39,7 +39,7 @@ fn first_missing(lines: &[(u32, Frac)], equations: &[Equation]) -> Option<Object
 }
 
 // Whether a binding is one that the system does not have.
-fn missing(number: u32, equations: &[Equation]) -> Option<Objection>
+fn binding_objection(number: u32, equations: &[Equation]) -> Option<Objection>
     ensures { result ≡ binding_objection equations.now number }
 {
     match equations.get(number as usize) {
@@ -49,11 +49,11 @@ fn missing(number: u32, equations: &[Equation]) -> Option<Objection>
 }
 
 // What is met first at these facts.
-fn first_unknown_fact(lines: &[(u32, Frac)], bounds: &[Bound]) -> Option<Objection>
+fn first_fact_objection(lines: &[(u32, Frac)], bounds: &[Bound]) -> Option<Objection>
     ensures { result ≡ first_given (λ m. fact_objection bounds.now m.0) lines.now }
 {
     for (fact, _factor) in lines {
-        if let Some(objection) = unknown(*fact, bounds) {
+        if let Some(objection) = fact_objection(*fact, bounds) {
             return Some(objection);
         }
     }
@@ -61,7 +61,7 @@ fn first_unknown_fact(lines: &[(u32, Frac)], bounds: &[Bound]) -> Option<Objecti
 }
 
 // What is met at a fact.
-fn unknown(fact: u32, bounds: &[Bound]) -> Option<Objection>
+fn fact_objection(fact: u32, bounds: &[Bound]) -> Option<Objection>
     ensures { result ≡ fact_objection bounds.now fact }
 {
     let Some(bound) = bounds.get(fact as usize) else {

@@ -5,7 +5,7 @@ ghost use Rattle.xc_verify.specs.Infeasible.{binding_terms, coefficient_terms, e
 ghost use Rattle.xc_verify.specs.Steps.Running.{Adds, at_point, sum_at};
 ghost use Rattle.xc_verify.specs.Sums.{IsNext, IsSumOf, plus_product};
 
-use crate::scratch::{clear, put, sum_at};
+use crate::scratch::{clear, put_sum, sum_at};
 use crate::sums::{minus, plus, plus_product};
 use xc_frac::{Frac, Wide};
 use xc_system::{Refutation, Side, System};
@@ -73,7 +73,7 @@ fn add_product(sums: &mut [Frac], stops: &mut [Option<Wide>], point: u32, left: 
     ensures { Adds (at_point point (plus_product left right)) (sum_at sums.old stops.old) (sum_at sums.new stops.new) }
 {
     let sum = plus_product(sum_at(sums, stops, point), left, right);
-    put(sums, stops, point, sum);
+    put_sum(sums, stops, point, sum);
 }
 
 // Adds what the listed ends of one side give.
@@ -108,7 +108,7 @@ fn add_end(side: Side, sums: &mut [Frac], stops: &mut [Option<Wide>], point: u32
     ensures { Adds (at_point point (end_term side factor)) (sum_at sums.old stops.old) (sum_at sums.new stops.new) }
 {
     let sum = with_end(side, sum_at(sums, stops, point), factor);
-    put(sums, stops, point, sum);
+    put_sum(sums, stops, point, sum);
 }
 
 // A sum with a multiplier of an end.

@@ -19,7 +19,7 @@ pub fn sum_at(sums: &[Frac], stops: &[Option<Wide>], point: u32) -> Result<Frac,
 }
 
 /// Writes the sum of a point.
-pub fn put(sums: &mut [Frac], stops: &mut [Option<Wide>], point: u32, sum: Result<Frac, Wide>)
+pub fn put_sum(sums: &mut [Frac], stops: &mut [Option<Wide>], point: u32, sum: Result<Frac, Wide>)
     requires sums { point < length sums.old }
     requires stops { point < length stops.old }
     ensures here { sum_at sums.new stops.new point ≡ sum }
@@ -43,6 +43,6 @@ pub fn clear(sums: &mut [Frac], stops: &mut [Option<Wide>], points: u32)
     ensures { (p : ℕ) → p < points → sum_at sums.new stops.new p ≡ Ok zero_ratio }
 {
     for point in 0..points {
-        put(sums, stops, point, Ok(zero()));
+        put_sum(sums, stops, point, Ok(zero()));
     }
 }

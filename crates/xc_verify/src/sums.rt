@@ -22,7 +22,7 @@ pub fn plus(sum: Result<Frac, Wide>, number: Frac) -> Result<Frac, Wide>
     ensures { IsNext sum (plus number) result }
 {
     match sum {
-        Ok(sum) => added(sum, number),
+        Ok(sum) => add_fractions(sum, number),
         Err(wide) => Err(wide),
     }
 }
@@ -32,7 +32,7 @@ pub fn minus(sum: Result<Frac, Wide>, number: Frac) -> Result<Frac, Wide>
     ensures { IsNext sum (minus number) result }
 {
     match sum {
-        Ok(sum) => taken(sum, number),
+        Ok(sum) => subtract_fractions(sum, number),
         Err(wide) => Err(wide),
     }
 }
@@ -42,7 +42,7 @@ pub fn plus_product(sum: Result<Frac, Wide>, left: Frac, right: Frac) -> Result<
     ensures { IsNext sum (plus_product left right) result }
 {
     match sum {
-        Ok(sum) => added_if(sum, multiplied(left, right)),
+        Ok(sum) => add_unless_passed(sum, multiply_fractions(left, right)),
         Err(wide) => Err(wide),
     }
 }
@@ -52,51 +52,51 @@ pub fn minus_product(sum: Result<Frac, Wide>, left: Frac, right: Frac) -> Result
     ensures { IsNext sum (minus_product left right) result }
 {
     match sum {
-        Ok(sum) => taken_if(sum, multiplied(left, right)),
+        Ok(sum) => subtract_unless_passed(sum, multiply_fractions(left, right)),
         Err(wide) => Err(wide),
     }
 }
 
 // A sum with what a product gave, if it did not pass.
-fn added_if(sum: Frac, product: Result<Frac, Wide>) -> Result<Frac, Wide>
+fn add_unless_passed(sum: Frac, product: Result<Frac, Wide>) -> Result<Frac, Wide>
     ensures { IsOnward Op.Add sum product result }
 {
     match product {
-        Ok(product) => added(sum, product),
+        Ok(product) => add_fractions(sum, product),
         Err(wide) => Err(wide),
     }
 }
 
 // A sum without what a product gave, if it did not pass.
-fn taken_if(sum: Frac, product: Result<Frac, Wide>) -> Result<Frac, Wide>
+fn subtract_unless_passed(sum: Frac, product: Result<Frac, Wide>) -> Result<Frac, Wide>
     ensures { IsOnward Op.Sub sum product result }
 {
     match product {
-        Ok(product) => taken(sum, product),
+        Ok(product) => subtract_fractions(sum, product),
         Err(wide) => Err(wide),
     }
 }
 
-fn added(left: Frac, right: Frac) -> Result<Frac, Wide>
+fn add_fractions(left: Frac, right: Frac) -> Result<Frac, Wide>
     ensures { IsResult Op.Add left right result }
 {
     Frac::add(left, right)
 }
 
-fn taken(left: Frac, right: Frac) -> Result<Frac, Wide>
+fn subtract_fractions(left: Frac, right: Frac) -> Result<Frac, Wide>
     ensures { IsResult Op.Sub left right result }
 {
     Frac::sub(left, right)
 }
 
-fn multiplied(left: Frac, right: Frac) -> Result<Frac, Wide>
+fn multiply_fractions(left: Frac, right: Frac) -> Result<Frac, Wide>
     ensures { IsResult Op.Mul left right result }
 {
     Frac::mul(left, right)
 }
 
 /// What is met at the end of a sum that has to be 0.
-pub fn unless_nothing(what: What, sum: Result<Frac, Wide>) -> Option<Objection>
+pub fn objection_unless_zero(what: What, sum: Result<Frac, Wide>) -> Option<Objection>
     ensures { IsMetAt what IsNothing sum result }
 {
     match sum {

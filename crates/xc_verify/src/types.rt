@@ -42,7 +42,7 @@ pub enum Objection {
 }
 
 /// The judgement by the first objection that was met, if one was.
-pub fn judged(met: Option<Objection>) -> Judgement
+pub fn judgement_of(met: Option<Objection>) -> Judgement
     ensures { objection_of result ≡ met }
 {
     match met {

@@ -8,8 +8,8 @@ bit true = 1
 bit false = 0
 
 -- with one more edge, to this vertex
-abbrev pub counted : Tally → ℕ → Bool → Tally
-counted t other minus = record { degree = t.degree + 1; others = t.others + other; minuses = t.minuses + bit minus }
+abbrev pub tally_with_edge : Tally → ℕ → Bool → Tally
+tally_with_edge t other minus = record { degree = t.degree + 1; others = t.others + other; minuses = t.minuses + bit minus }
 
 -- the tally of a vertex; that without edges where there is none
 abbrev pub tally_at : List Tally → ℕ → Tally

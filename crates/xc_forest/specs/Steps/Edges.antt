@@ -18,23 +18,27 @@ abbrev pub edges_from : ℕ → List (List (ℕ × Bool)) → List Edge
 edges_from v [] = []
 edges_from v (row ∷ rows) = edges_of_row v row ++ edges_from (v + 1) rows
 
+-- the edge is one of these
 abbrev pub IsEdgeIn : Edge → List Edge → Type 0
 IsEdgeIn e [] = ⊥
 IsEdgeIn e (x ∷ xs) = (e ≡ x) ⊎ IsEdgeIn e xs
 
--- how many edges end at x, the sum of their other ends, and how many of them have a minus sign
+-- how many edges end at x
 abbrev pub degree : List Edge → ℕ → ℕ
 degree [] x = 0
 degree (e ∷ es) x = ((if e.point == x then 1 else 0) + (if e.row == x then 1 else 0)) + degree es x
 
+-- the sum of their other ends
 abbrev pub others : List Edge → ℕ → ℕ
 others [] x = 0
 others (e ∷ es) x = ((if e.point == x then e.row else 0) + (if e.row == x then e.point else 0)) + others es x
 
+-- how many of them have a minus sign
 abbrev pub minuses : List Edge → ℕ → ℕ
 minuses [] x = 0
 minuses (e ∷ es) x = (if e.minus then ((if e.point == x then 1 else 0) + (if e.row == x then 1 else 0)) else 0) + minuses es x
 
+-- the tally is that of x: of the edges that end there
 pub record IsTally (es : List Edge) (x : ℕ) (t : Tally) : Type 0 where
   pub degree : t.degree ≡ degree es x
   pub others : t.others ≡ others es x
@@ -53,6 +57,7 @@ pairs (e ∷ es) x y = ((if e.point == x then (if e.row == y then 1 else 0) else
 abbrev pub AreProper : List Edge → Type 0
 AreProper es = (e : Edge) → IsEdgeIn e es → ¬ (e.point ≡ e.row)
 
+-- entry j of an order; 0 where there is none
 abbrev pub at : List ℕ → ℕ → ℕ
 at order j = slice_index_or order j 0
 
@@ -71,9 +76,11 @@ pub record IsPeeling (edges : List Edge) (n : ℕ) (order : List ℕ) (k : ℕ) 
   pub simple : (x y : ℕ) → pairs left x y ≤ 1
   pub few : (j : ℕ) → k ≤ j → j < length order → degree left (at order j) ≤ 1
 
+-- each vertex has its tally of these edges
 abbrev pub AreTallies : List Edge → List Tally → Type 0
 AreTallies es ts = (x : ℕ) (d : Tally) → x < length ts → IsTally es x (slice_index_or ts x d)
 
+-- the first k of the order are taken away, and each vertex has its tally of the edges left
 pub record IsPeeled (edges : List Edge) (order : List ℕ) (k : ℕ) (ts : List Tally) : Type 0 where
   pub left : List Edge
   pub peeling : IsPeeling edges (length ts) order k left
@@ -85,6 +92,7 @@ pub record IsTallyWith (es left : List Edge) (x : ℕ) (t : Tally) : Type 0 wher
   pub others : t.others + others left x ≡ others es x
   pub minuses : t.minuses + minuses left x ≡ minuses es x
 
+-- so of each vertex
 abbrev pub AreTalliesWith : List Edge → List Edge → List Tally → Type 0
 AreTalliesWith es left ts = (x : ℕ) (d : Tally) → x < length ts → IsTallyWith es left x (slice_index_or ts x d)
 

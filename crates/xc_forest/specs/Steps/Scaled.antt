@@ -21,9 +21,11 @@ scale_of (range ∷ ranges) = scale_of_pair (value_of range.low) * scale_of_pair
 abbrev pub times_scale : ℕ → Fraction → ℤ
 times_scale d x = x.num *ℤ pos (d / x.den)
 
+-- both parts of a pair, times d
 abbrev pub whole_over : ℕ → Parts → WholeParts
 whole_over d x = record { real = times_scale d x.real; tiny = times_scale d x.tiny }
 
+-- the ends of a range, times d
 abbrev pub span_over : ℕ → Interval Parts → Span
 span_over d range = record { low = whole_over d (value_of range.low); high = whole_over d (value_of range.high) }
 

@@ -1,6 +1,6 @@
 -- How the multiplier of an end is shared between a point and the row that narrowed it.
 use Rattle.std.specs.Prelude.{◌≡◌, ℕ, Bool, true, false, List, ℤ, pos, negsuc}
-use Rattle.xc_forest.specs.Forests.{turn, multiplier_at}
+use Rattle.xc_forest.specs.Forests.{number_with_sign, multiplier_at}
 
 -- all of them are 0
 abbrev pub AreZero : List ℤ → Type 0
@@ -8,7 +8,7 @@ AreZero us = (v : ℕ) → multiplier_at us v ≡ pos 0
 
 -- the end is the row's, or the point's own
 abbrev pub IsShareOf : Bool → Bool → ℤ → ℤ → ℤ → Type 0
-IsShareOf true b u of_point of_row = (of_point ≡ pos 0) × (of_row ≡ turn b u)
+IsShareOf true b u of_point of_row = (of_point ≡ pos 0) × (of_row ≡ number_with_sign b u)
 IsShareOf false b u of_point of_row = (of_point ≡ u) × (of_row ≡ pos 0)
 
 -- 1 is the multiplier of the low end, and -1 of the high one

@@ -1,6 +1,6 @@
 -- How the value of a row is split, once the point that was taken from it is put back.
 use Rattle.std.specs.Prelude.{◌≡◌, ℕ, Bool, true, false, ◌⊎◌, ◌+ℤ◌}
-use Rattle.xc_forest.specs.Forests.{turn}
+use Rattle.xc_forest.specs.Forests.{number_with_sign}
 use Rattle.xc_forest.specs.Steps.Vertices.{Span, IsWithin, part, end}
 use Rattle.xc_forest.specs.declared.spans.Bounds.{Bounds}
 use Rattle.xc_frac.specs.declared.wide.Op.{Op}
@@ -10,7 +10,7 @@ use Rattle.xc_model.specs.Parts.{Parts, WholeParts, ArePartsOver}
 
 -- t is zr less weight times zp
 abbrev pub IsRest : Bool → WholeParts → WholeParts → WholeParts → Type 0
-IsRest b t zr zp = (c : Bool) → part c zr ≡ part c t +ℤ turn b (part c zp)
+IsRest b t zr zp = (c : Bool) → part c zr ≡ part c t +ℤ number_with_sign b (part c zp)
 
 -- zp is the least value of the point with which the row stays within: its low end, or what leaves the row at an end
 pub record IsSplit (b : Bool) (x y : Span) (t zr zp : WholeParts) : Type 0 where
@@ -33,5 +33,5 @@ CanSplit passes false of_row of_point rest = ((w : Wide) → ¬ passes Add rest 
 CanSplit passes true of_row of_point rest = ((w : Wide) → ¬ passes Sub rest of_point.low w) × ((w : Wide) → ¬ passes Sub rest of_row.high w)
 
 -- weight times a value
-abbrev pub turned_pair : Bool → WholeParts → WholeParts
-turned_pair b a = record { real = turn b a.real; tiny = turn b a.tiny }
+abbrev pub pair_with_sign : Bool → WholeParts → WholeParts
+pair_with_sign b a = record { real = number_with_sign b a.real; tiny = number_with_sign b a.tiny }

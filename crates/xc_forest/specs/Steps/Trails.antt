@@ -4,7 +4,7 @@ use Rattle.xc_forest.specs.Forests.{IsUnit, multiplier_at, ranges_of}
 use Rattle.xc_lists.specs.Members.{IsIn}
 use Rattle.xc_forest.specs.Steps.Links.{graph_of, vertices}
 use Rattle.xc_forest.specs.Steps.Scaled.{AreBoundsOver, AreValuesOver, AreSpansOver, scale_of, first_spans}
-use Rattle.xc_forest.specs.Steps.Vertices.{Graph, Span, IsLeafPoint, IsLeafRow, IsAlone, IsMeet, IsWithin, IsNonempty, lessened, turned, no_parts, Settles, Refutes}
+use Rattle.xc_forest.specs.Steps.Vertices.{Graph, Span, IsLeafPoint, IsLeafRow, IsAlone, IsMeet, IsWithin, IsNonempty, row_without_point, span_with_sign, no_parts, AreVertexValues, Refutes}
 use Rattle.xc_forest.specs.declared.links.Link.{Link}
 use Rattle.xc_forest.specs.declared.spans.Bounds.{Bounds}
 use Rattle.xc_forest.specs.declared.types.Forest.{Forest}
@@ -23,31 +23,35 @@ pub data IsTrail {E : Type 0} (parts : E → Parts) (d : ℕ) (g : Graph) (ws : 
   start : IsTrail parts d g ws o [] ws o
   took_point : (p r : ℕ) (b : Bool) (x y : Bounds E) (us : List (Undo E)) (vs : List ℕ) (a n : ℕ → Span)
       → IsTrail parts d g ws o us (p ∷ vs) a → IsLeafPoint g vs p r b → AreBoundsOver parts d x (a r) → AreBoundsOver parts d y (a p)
-      → n r ≡ lessened b (a r) (a p) → ((v : ℕ) → IsIn v vs → v ≢ r → n v ≡ a v) → IsNonempty (a r) → IsNonempty (a p)
+      → n r ≡ row_without_point b (a r) (a p) → ((v : ℕ) → IsIn v vs → v ≢ r → n v ≡ a v) → IsNonempty (a r) → IsNonempty (a p)
       → IsTrail parts d g ws o (undo.Point p r b x y ∷ us) vs n
   took_row : (r p : ℕ) (b lo hi : Bool) (us : List (Undo E)) (vs : List ℕ) (a n : ℕ → Span)
       → IsTrail parts d g ws o us (r ∷ vs) a → IsLeafRow g vs r p b
-      → IsMeet lo hi (a p) (turned b (a r)) (n p) → ((v : ℕ) → IsIn v vs → v ≢ p → n v ≡ a v)
+      → IsMeet lo hi (a p) (span_with_sign b (a r)) (n p) → ((v : ℕ) → IsIn v vs → v ≢ p → n v ≡ a v)
       → IsTrail parts d g ws o (undo.Row r p b lo hi ∷ us) vs n
   took_alone : (w : ℕ) (e : E) (x : WholeParts) (us : List (Undo E)) (vs : List ℕ) (a : ℕ → Span)
       → IsTrail parts d g ws o us (w ∷ vs) a → IsAlone g vs w → ArePartsOver (parts e) x d → IsLoneValue (g.is_row w) (a w) x → IsNonempty (a w)
       → IsTrail parts d g ws o (undo.Alone w e ∷ us) vs a
 
--- one more step behind these
+-- one more step behind these: a point that was left in one row
 abbrev pub with_point : {E : Type 0} → List (Undo E) → ℕ → ℕ → Bool → Bounds E → Bounds E → List (Undo E)
 with_point undos p r b x y = undos ++ undo.Point p r b x y ∷ []
 
+-- a row that had one point left
 abbrev pub with_row : {E : Type 0} → List (Undo E) → ℕ → ℕ → Bool → Bool → Bool → List (Undo E)
 with_row undos r p b lo hi = undos ++ undo.Row r p b lo hi ∷ []
 
+-- a vertex without neighbours
 abbrev pub with_alone : {E : Type 0} → List (Undo E) → ℕ → E → List (Undo E)
 with_alone undos w e = undos ++ undo.Alone w e ∷ []
 
--- multipliers of a point and of its row whose spans do not meet: the test tells that the low end of what they have in common is the row's
+-- the multiplier of a point whose span does not meet that of its row: the test tells that the low end of what they have in common is the
+-- row's
 abbrev pub point_clash : Bool → ℤ
 point_clash true = negsuc 0
 point_clash false = pos 1
 
+-- and that of the row, which has the point with a minus sign where the second test says so
 abbrev pub row_clash : Bool → Bool → ℤ
 row_clash true false = pos 1
 row_clash true true = negsuc 0
@@ -78,7 +82,7 @@ module _ {E : Type 0} (parts : E → Parts) (forest : Forest E) (links : List Li
     pub now : ℕ → Span
     pub value : ℕ → WholeParts
     pub trail : IsTrailOf undos left now
-    pub settles : Settles (graph_of (length forest.ranges) forest.rows) left now value
+    pub settles : AreVertexValues (graph_of (length forest.ranges) forest.rows) left now value
     pub hold : AreValuesOver parts (scale_of (ranges_of parts forest.ranges)) values value
     pub each : length values ≡ length forest.ranges + length forest.rows
 

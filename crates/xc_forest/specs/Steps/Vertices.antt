@@ -6,10 +6,11 @@ use Rattle.xc_lists.specs.Members.{IsIn}
 use Rattle.xc_model.specs.Parts.{WholeParts, IsLessWhole}
 
 infix 50 ◌≺◌ ◌≼◌
--- a is less than b; a is at most b
+-- a is less than b
 abbrev pub ◌≺◌ : WholeParts → WholeParts → Type 0
 a ≺ b = IsLessWhole a b
 
+-- a is at most b
 abbrev pub ◌≼◌ : WholeParts → WholeParts → Type 0
 a ≼ b = (a.real <ℤ b.real) ⊎ ((a.real ≡ b.real) × (a.tiny ≤ℤ b.tiny))
 
@@ -80,7 +81,7 @@ abbrev pub IsEnd : Span → WholeParts → Type 0
 IsEnd a x = (e : Bool) × (x ≡ end e a)
 
 -- values of the vertices vs: each within its span, each row the sum of its points, and each value an end of its vertex or a signed sum without it
-pub record Settles (g : Graph) (vs : List ℕ) (a : ℕ → Span) (z : ℕ → WholeParts) : Type 0 where
+pub record AreVertexValues (g : Graph) (vs : List ℕ) (a : ℕ → Span) (z : ℕ → WholeParts) : Type 0 where
   pub within : (v : ℕ) → IsIn v vs → IsWithin (a v) (z v)
   pub meets : (r : ℕ) → IsIn r vs → g.is_row r ≡ true → (c : Bool) → part c (z r) ≡ sum_over vs (λ p. g.weigh r p *ℤ part c (z p))
   pub signed : (v : ℕ) → IsIn v vs → IsEnd (a v) (z v) ⊎ IsSumWithout vs a v (z v)
@@ -98,20 +99,20 @@ pub record Refutes (g : Graph) (vs : List ℕ) (a : ℕ → Span) (u : ℕ → �
   pub positive : no_parts ≺ record { real = sum_over vs (λ v. bound false (u v) (a v)); tiny = sum_over vs (λ v. bound true (u v) (a v)) }
 
 -- the span of a row less weight times that of a point
-abbrev pub lessened : Bool → Span → Span → Span
-lessened false x y = record {
+abbrev pub row_without_point : Bool → Span → Span → Span
+row_without_point false x y = record {
   low = record { real = x.low.real -ℤ y.high.real; tiny = x.low.tiny -ℤ y.high.tiny };
   high = record { real = x.high.real -ℤ y.low.real; tiny = x.high.tiny -ℤ y.low.tiny };
 }
-lessened true x y = record {
+row_without_point true x y = record {
   low = record { real = x.low.real +ℤ y.low.real; tiny = x.low.tiny +ℤ y.low.tiny };
   high = record { real = x.high.real +ℤ y.high.real; tiny = x.high.tiny +ℤ y.high.tiny };
 }
 
 -- weight times a span
-abbrev pub turned : Bool → Span → Span
-turned false y = y
-turned true y = record {
+abbrev pub span_with_sign : Bool → Span → Span
+span_with_sign false y = y
+span_with_sign true y = record {
   low = record { real = neg_ℤ y.high.real; tiny = neg_ℤ y.high.tiny };
   high = record { real = neg_ℤ y.low.real; tiny = neg_ℤ y.low.tiny };
 }

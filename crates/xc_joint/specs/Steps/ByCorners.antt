@@ -2,7 +2,7 @@
 use Rattle.std.specs.Prelude.{◌≡◌, ◌<◌, ◌⊎◌, ℕ, List, Ok, Err}
 use Rattle.xc_corners.specs.Choices.{IsReached}
 use Rattle.xc_corners.specs.Corners.{Corner, CornerLists}
-use Rattle.xc_corners.specs.WholeNumbers.{whole}
+use Rattle.xc_corners.specs.WholeNumbers.{whole_problem}
 use Rattle.xc_corners.specs.declared.problem.Problem.{Problem}
 use Rattle.xc_frac.specs.declared.wide.Wide.{Wide}
 use Rattle.xc_joint.specs.Answers.{AreValuesOf}
@@ -72,6 +72,6 @@ IsChecked s r (Passes w) = PassesInRefutation s r w
 -- the refutation is that of a conflict of the run, and no operation passes on the way to it
 pub record IsOfConflict (s : Constraints) (c : Component) (problem : Problem) (r : Multipliers) : Type 0 where
   pub corner : Corner
-  pub reached : IsReached (whole problem) corner
+  pub reached : IsReached (whole_problem problem) corner
   pub is : IsRefutationAt s c problem corner r
   pub nothing : NothingStops problem

@@ -14,36 +14,40 @@ use Rattle.xc_system.specs.Kept.{Multipliers}
 use Rattle.xc_system.specs.Systems.{Constraints}
 use Rattle.xc_system.specs.declared.types.Component.{Component}
 
--- a multiplier is 1, for a low end; -1, for a high end; or not 0
+-- a multiplier names a low end: it is positive
 abbrev pub is_plus : ℤ → Bool
 is_plus (pos zero) = false
 is_plus (pos (suc k)) = true
 is_plus (negsuc k) = false
 
+-- a multiplier names a high end: it is negative
 abbrev pub is_minus : ℤ → Bool
 is_minus (pos k) = false
 is_minus (negsuc k) = true
 
+-- a multiplier of an equation counts: it is not 0
 abbrev pub is_nonzero : ℤ → Bool
 is_nonzero (pos zero) = false
 is_nonzero (pos (suc k)) = true
 is_nonzero (negsuc k) = true
 
 -- what is made of those whose multiplier passes a test
-abbrev pub picked : {X Y : Type 0} → (ℤ → Bool) → (X → ℤ → Y) → List X → List ℤ → List Y
-picked test made [] es = []
-picked test made (x ∷ xs) [] = []
-picked test made (x ∷ xs) (e ∷ es) = if test e then made x e ∷ picked test made xs es else picked test made xs es
+abbrev pub map_where : {X Y : Type 0} → (ℤ → Bool) → (X → ℤ → Y) → List X → List ℤ → List Y
+map_where test made [] es = []
+map_where test made (x ∷ xs) [] = []
+map_where test made (x ∷ xs) (e ∷ es) = if test e then made x e ∷ map_where test made xs es else map_where test made xs es
 
--- the facts whose low ends are named, the facts whose high ends are named, and the equations with true for a minus sign
-abbrev pub lows_of : List Span → List ℤ → List ℕ
-lows_of spans ends = picked is_plus (λ x e. x.low) spans ends
+-- the facts whose low ends are named
+abbrev pub named_low_facts : List Span → List ℤ → List ℕ
+named_low_facts spans ends = map_where is_plus (λ x e. x.low) spans ends
 
-abbrev pub highs_of : List Span → List ℤ → List ℕ
-highs_of spans ends = picked is_minus (λ x e. x.high) spans ends
+-- the facts whose high ends are named
+abbrev pub named_high_facts : List Span → List ℤ → List ℕ
+named_high_facts spans ends = map_where is_minus (λ x e. x.high) spans ends
 
-abbrev pub bindings_of : List ℕ → List ℤ → List (ℕ × Bool)
-bindings_of equations by = picked is_nonzero (λ i e. (i, is_minus e)) equations by
+-- the equations that count, with true for a minus sign
+abbrev pub named_bindings : List ℕ → List ℤ → List (ℕ × Bool)
+named_bindings equations by = map_where is_nonzero (λ i e. (i, is_minus e)) equations by
 
 -- a fact listed with 1
 abbrev pub IsListed : ℕ → ℕ × Ratio → Type 0
@@ -67,10 +71,10 @@ pub record IsContradicted (s : Constraints) (c : Component) (spans : List Span) 
 pub record IsMadeOf (c : Component) (spans : List Span) (by ends : List ℤ) (r : Multipliers) : Type 0 where
   pub lows : List ℕ
   pub highs : List ℕ
-  pub lows_are : IsPermutation (lows_of spans ends) lows
-  pub highs_are : IsPermutation (highs_of spans ends) highs
+  pub lows_are : IsPermutation (named_low_facts spans ends) lows
+  pub highs_are : IsPermutation (named_high_facts spans ends) highs
   pub lows_ascend : IsSorted nat_cmp lows
   pub highs_ascend : IsSorted nat_cmp highs
   pub lows_listed : AreEach IsListed lows r.lows
   pub highs_listed : AreEach IsListed highs r.highs
-  pub bindings_listed : AreEach IsSigned (bindings_of c.equations by) r.bindings
+  pub bindings_listed : AreEach IsSigned (named_bindings c.equations by) r.bindings

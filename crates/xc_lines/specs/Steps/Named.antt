@@ -6,9 +6,9 @@ use Rattle.xc_model.specs.Ratio.{Ratio}
 use Rattle.xc_system.specs.Kept.{IsAscending}
 
 -- whether the first is of this number, and what is left then
-abbrev pub taken : List (ℕ × Ratio) → ℕ → Bool × List (ℕ × Ratio)
-taken [] n = (false, [])
-taken (m ∷ ms) n = if m.0 == n then (true, ms) else (false, m ∷ ms)
+abbrev pub take_number : List (ℕ × Ratio) → ℕ → Bool × List (ℕ × Ratio)
+take_number [] n = (false, [])
+take_number (m ∷ ms) n = if m.0 == n then (true, ms) else (false, m ∷ ms)
 
 -- what is left of the list says of the facts from number n on what the list says
 pub record IsLeft (listed left : List (ℕ × Ratio)) (n : ℕ) : Type 0 where

@@ -13,8 +13,8 @@ pub record IsRoots (up : List ℕ) (root : ℕ → ℕ) : Type 0 where
   pub own : (q : ℕ) → q < length up → slice_index up q ≡ q → root q ≡ q
 
 -- the roots once a and b are joined: the lesser of their two roots stands for both
-abbrev pub joined : (ℕ → ℕ) → ℕ → ℕ → ℕ → ℕ
-joined root a b q = if root q == max (root a) (root b) then min (root a) (root b) else root q
+abbrev pub roots_after_join : (ℕ → ℕ) → ℕ → ℕ → ℕ → ℕ
+roots_after_join root a b q = if root q == max (root a) (root b) then min (root a) (root b) else root q
 
 -- the points of the equations before number i have one root each, and nothing has one that is not linked
 pub record IsJoined (equations : List Equation) (i : ℕ) (up : List ℕ) : Type 0 where

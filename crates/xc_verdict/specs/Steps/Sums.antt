@@ -15,7 +15,7 @@ use Rattle.xc_interval.specs.declared.range.Range.TheVariants as range
 use Rattle.xc_model.specs.Fraction.{Fraction, SameNumber, whole, sum_of, product_of}
 use Rattle.xc_model.specs.Ratio.{Ratio, IsOver}
 use Rattle.xc_points.specs.declared.types.Point.{Point}
-use Rattle.xc_verdict.specs.Ranges.{named, range_at, SomeHas, EachHas}
+use Rattle.xc_verdict.specs.Ranges.{named_points, range_at, SomeHas, EachHas}
 use Rattle.xc_interval.specs.Scales.{AreOnScale, greatest}
 use Rattle.xc_verdict.specs.Widths.{weight_size, IsNarrowBinding}
 
@@ -96,10 +96,10 @@ module _ (points : List Point) where
 
   -- the verdict of a binding, by the ranges
   abbrev pub IsFound : Binding → Verdict → Type 0
-  IsFound binding TooWide = SomeIsWide (named binding) ⊎ (AllAreMet (named binding) × ¬ IsNarrowBinding points binding)
-  IsFound binding Unjudged = (¬ SomeIsWide (named binding)) × SomeIsEmpty (named binding)
-  IsFound binding Consistent = AllAreMet (named binding) × IsNarrowBinding points binding × ((x : Fraction) × IsShared binding x)
-  IsFound binding Inconsistent = AllAreMet (named binding) × IsNarrowBinding points binding × ((x : Fraction) → ¬ IsShared binding x)
+  IsFound binding TooWide = SomeIsWide (named_points binding) ⊎ (AllAreMet (named_points binding) × ¬ IsNarrowBinding points binding)
+  IsFound binding Unjudged = (¬ SomeIsWide (named_points binding)) × SomeIsEmpty (named_points binding)
+  IsFound binding Consistent = AllAreMet (named_points binding) × IsNarrowBinding points binding × ((x : Fraction) × IsShared binding x)
+  IsFound binding Inconsistent = AllAreMet (named_points binding) × IsNarrowBinding points binding × ((x : Fraction) → ¬ IsShared binding x)
 
 -- an end is a whole number of the unit 1 / unit, at most so many in magnitude
 pub record IsCounted (unit most : ℕ) (end : End Ratio) : Type 0 where

@@ -5,8 +5,8 @@ use Rattle.xc_bind.proofs.Owning.{facts_within, owners_more, owners_left}
 use Rattle.xc_points.specs.declared.types.Point.{Point}
 use Rattle.xc_bind.proofs.constraints.owners.Goals as goal
 
-pub own-requires : goal.own-requires
-own-requires c =
+pub set_owner-requires : goal.set_owner-requires
+set_owner-requires c =
     let points = c.args.points.now.points in
     let item = c.point-item.result in
     let n = c.loop-number.number in
@@ -21,10 +21,10 @@ loop-number-preserved c =
     let n = c.loop-number.number in
     let there : slice_get points n ≡ Some item = ap (λ (l : List Point). slice_get l n) (sym c.as_slice-point-items.ensures.points) ∙ slice_get_read c.as_slice-point-items.result.now (length c.as_slice-point-items.result.now) n item refl c.loop-number-test.true c.point-item.is in
     record {
-      facts = c.own.auto.owners ∙ c.loop-number.invariant.facts;
-      owned = owners_more points c.args.points.now.ends c.loop-number.all c.own.new.owners n item c.as_slice-point-items.ensures.kept there
-          (λ f h. c.own.ensures.own f (subst (λ (l : List ℕ). IsTrue (list_any (λ g. g == f) l)) (sym c.as_slice.ensures) h))
-          (λ f h. c.own.ensures.others f (subst (λ (l : List ℕ). list_any (λ g. g == f) l ≡ false) (sym c.as_slice.ensures) h))
+      facts = c.set_owner.auto.owners ∙ c.loop-number.invariant.facts;
+      owned = owners_more points c.args.points.now.ends c.loop-number.all c.set_owner.new.owners n item c.as_slice-point-items.ensures.kept there
+          (λ f h. c.set_owner.ensures.own f (subst (λ (l : List ℕ). IsTrue (list_any (λ g. g == f) l)) (sym c.as_slice.ensures) h))
+          (λ f h. c.set_owner.ensures.others f (subst (λ (l : List ℕ). list_any (λ g. g == f) l ≡ false) (sym c.as_slice.ensures) h))
           c.loop-number.invariant.owned;
     }
 

@@ -22,13 +22,13 @@ loop-k-smaller c =
 
 pub loop-k-preserved : goal.loop-k-preserved
 loop-k-preserved c =
-    let e = lent c.loop-k.tallies.len c.taken.new.tallies c.loop-k.tallies.items (c.taken.ensures.each ∙ ap length c.as_mut_slice.ensures.value) c.loop-k.tallies.ok.0 in
+    let e = lent c.loop-k.tallies.len c.peel_vertex.new.tallies c.loop-k.tallies.items (c.peel_vertex.ensures.each ∙ ap length c.as_mut_slice.ensures.value) c.loop-k.tallies.ok.0 in
     let k : length c.loop-k.links.items ≡ c.loop-k.k = c.loop-k.invariant.so_far in
     let pushed : c.push.new.self.items ≡ c.loop-k.links.items ++ c.in_ok-link.link ∷ [] = c.in_ok-push.ensures.items in
     let link : IsLinkAt (edges_from c.args.points c.args.rows.now) c.loop-k.order.items (length c.loop-k.links.items) c.in_ok-link.link = rw k c.in_ok-link.ensures.link in
     record {
       peeled = rw e c.in_ok-link.ensures.peeled;
-      each = rw e (c.taken.ensures.each ∙ ap length c.as_mut_slice.ensures.value ∙ c.loop-k.invariant.each);
+      each = rw e (c.peel_vertex.ensures.each ∙ ap length c.as_mut_slice.ensures.value ∙ c.loop-k.invariant.each);
       so_far = ap length pushed ∙ length_push c.loop-k.links.items c.in_ok-link.link ∙ ap (λ (n : ℕ). n + 1) k;
       links = rw pushed (one_more_link _ c.loop-k.order.items _ c.loop-k.links.items c.in_ok-link.link c.loop-k.invariant.links (omega (arith, c.len.ensures, c.loop-k.order.ok.0)) link (record { same = c.in_ok-link.ensures.same; longer = c.in_ok-link.ensures.longer }));
     }

@@ -12,8 +12,8 @@ index-of_row-requires g c =
     let b = known_here g.E.Exact.parts c.args.forest.now c.args.links.now c.requires.listing c.args.k c.requires.there c.args.spans.now.items c.args.undos.now.items c.requires.narrowed link refl link.next (inr leaf.left) in
     omega (arith, b, c.args.spans.now.ok.0)
 
-pub lessened-requires : goal.lessened-requires
-lessened-requires g c =
+pub row_without_point-requires : goal.row_without_point-requires
+row_without_point-requires g c =
     let link = link_at c.args.links.now c.args.k in
     let to = linked g.E.Exact.parts c.args.forest.now c.args.links.now c.requires.listing c.args.k c.requires.there c.args.spans.now.items c.args.undos.now.items c.requires.narrowed link refl in
     let leaf = link_point _ _ _ link c.requires.last c.requires.kind to in
@@ -37,4 +37,4 @@ returns g c =
     let leaf = link_point _ _ _ link c.requires.last c.requires.kind to in
     let x = hold_at g.E.Exact.parts c.args.forest.now c.args.links.now c.requires.listing c.args.k c.requires.there c.args.spans.now.items c.args.undos.now.items c.requires.narrowed link refl link.next c.index-of_row.result.now (inr leaf.left) c.index-of_row.ensures in
     let y = hold_at g.E.Exact.parts c.args.forest.now c.args.links.now c.requires.listing c.args.k c.requires.there c.args.spans.now.items c.args.undos.now.items c.requires.narrowed link refl link.vertex c.index-of_point.result.now (inl refl) c.index-of_point.ensures in
-    rw c.in_ok-push.ensures.items (point_step g.E.Exact.parts c.args.forest.now c.args.links.now c.requires.listing c.args.k c.requires.there c.args.spans.now.items c.args.undos.now.items c.requires.narrowed link refl leaf c.index-of_row.result.now c.index-of_point.result.now c.lessened.result x y (c.lessened.ensures _ _ _ x y))
+    rw c.in_ok-push.ensures.items (point_step g.E.Exact.parts c.args.forest.now c.args.links.now c.requires.listing c.args.k c.requires.there c.args.spans.now.items c.args.undos.now.items c.requires.narrowed link refl leaf c.index-of_row.result.now c.index-of_point.result.now c.row_without_point.result x y (c.row_without_point.ensures _ _ _ x y))

@@ -34,7 +34,7 @@ returns-then-is_empty g c =
     let leaf = link_row _ _ _ link c.requires.last c.requires.kind to in
     let x = hold_at g.E.Exact.parts c.args.forest.now c.args.links.now c.requires.listing c.args.k c.requires.there c.args.spans.now.items c.args.undos.now.items c.requires.narrowed link refl link.next c.index-of_point.result.now (inr leaf.left) c.index-of_point.ensures in
     let y = hold_at g.E.Exact.parts c.args.forest.now c.args.links.now c.requires.listing c.args.k c.requires.there c.args.spans.now.items c.args.undos.now.items c.requires.narrowed link refl link.vertex c.index-of_row.result.now (inl refl) c.index-of_row.ensures in
-    let m = c.meet-common.ensures _ _ (scale_of (ranges_of g.E.Exact.parts c.args.forest.now.ranges)) x (c.turned.ensures _ _ y) in
+    let m = c.meet-common.ensures _ _ (scale_of (ranges_of g.E.Exact.parts c.args.forest.now.ranges)) x (c.span_with_sign.ensures _ _ y) in
     row_clashes g.E.Exact.parts c.args.forest.now c.args.links.now c.requires.listing c.args.k c.requires.there c.args.spans.now.items c.args.undos.now.items c.requires.narrowed link refl leaf c.meet-common.result.low_of_second c.meet-common.result.high_of_second m.0 m.2 (c.if-is_empty.ensures m.0 _ m.1) c.clash_of.result c.clash_of.ensures.row c.clash_of.ensures.point c.clash_of.ensures.row_by c.clash_of.ensures.point_by
 
 pub returns : goal.returns
@@ -44,5 +44,5 @@ returns g c =
     let leaf = link_row _ _ _ link c.requires.last c.requires.kind to in
     let x = hold_at g.E.Exact.parts c.args.forest.now c.args.links.now c.requires.listing c.args.k c.requires.there c.args.spans.now.items c.args.undos.now.items c.requires.narrowed link refl link.next c.index-of_point.result.now (inr leaf.left) c.index-of_point.ensures in
     let y = hold_at g.E.Exact.parts c.args.forest.now c.args.links.now c.requires.listing c.args.k c.requires.there c.args.spans.now.items c.args.undos.now.items c.requires.narrowed link refl link.vertex c.index-of_row.result.now (inl refl) c.index-of_row.ensures in
-    let m = c.meet-common.ensures _ _ (scale_of (ranges_of g.E.Exact.parts c.args.forest.now.ranges)) x (c.turned.ensures _ _ y) in
+    let m = c.meet-common.ensures _ _ (scale_of (ranges_of g.E.Exact.parts c.args.forest.now.ranges)) x (c.span_with_sign.ensures _ _ y) in
     rw c.in_ok-push.ensures.items (row_step g.E.Exact.parts c.args.forest.now c.args.links.now c.requires.listing c.args.k c.requires.there c.args.spans.now.items c.args.undos.now.items c.requires.narrowed link refl leaf c.meet-common.result.low_of_second c.meet-common.result.high_of_second c.meet-common.result.bounds m.0 m.1 m.2 (c.if-is_empty.ensures m.0 _ m.1))

@@ -14,8 +14,8 @@ pub spans-requires : goal.spans-requires
 spans-requires c = subst (λ (ps : List ℕ). All (HasSome c.args.system.now) ps) (sym c.as_slice.ensures)
     (known_points_have c.args.system.now c.args.component.now c.requires.component c.requires.none_empty (unwide_known c.args.system.now c.args.component.now c.requires.none_wide))
 
-pub with_refutation-requires-clause-conflict : goal.with_refutation-requires-clause-conflict
-with_refutation-requires-clause-conflict c =
+pub settle_by_refutation-requires-clause-conflict : goal.settle_by_refutation-requires-clause-conflict
+settle_by_refutation-requires-clause-conflict c =
     let s = c.args.system.now in
     let part = c.args.component.now in
     let problem = c.in_ok-problem.problem in

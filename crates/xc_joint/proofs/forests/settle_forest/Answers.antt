@@ -18,8 +18,8 @@ pub ranges-requires : goal.ranges-requires
 ranges-requires c = subst (λ (xs : List Span). All (λ span. IsSome (range_at c.args.system.now.bounds span.low) × IsSome (range_at c.args.system.now.bounds span.high)) xs) (sym c.as_slice-2.ensures.value)
     (spans_known c.args.system.now c.as_slice.result.now c.in_ok-spans.spans.items c.in_ok-spans.ensures)
 
-pub solved-requires-clause-ranges : goal.solved-requires-clause-ranges
-solved-requires-clause-ranges c =
+pub solve_forest-requires-clause-ranges : goal.solve_forest-requires-clause-ranges
+solve_forest-requires-clause-ranges c =
     let s = c.args.system.now in
     subst (λ (rs : List (Interval Ratio)). AreEach (IsBounded s) c.args.component.now.points rs) (sym c.as_slice-3.ensures.value)
     (points_bounded s c.args.component.now.points c.in_ok-spans.spans.items c.in_ok-ranges.ranges.items

@@ -24,8 +24,8 @@ returns-in-Refuted c = refuted_answer c.proofs_are_accepted.ensures.contradictio
     c.loop-component.parts.items c.loop-component.all.items c.loop-component.invariant.each c.loop-component.invariant.gathered c.components_decide.ensures.contradiction c.points.ensures.system
     c.in-Refuted.refutation (subst (λ (f : Found). IsFound c.args.system.now c.component-item.result f) c.in-Refuted.is c.in_ok-refutation.ensures.found)
 
-pub place-requires-clause-inside : goal.place-requires-clause-inside
-place-requires-clause-inside c =
+pub put_values-requires-clause-inside : goal.put_values-requires-clause-inside
+put_values-requires-clause-inside c =
     let s = c.args.system.now in
     let part = c.component-item.result in
     let is = c.requires.components.each c.loop-component.component-index part
@@ -33,8 +33,8 @@ place-requires-clause-inside c =
     subst (λ (ps : List ℕ). (k d : ℕ) → k < length ps → get_or ps k d < length c.as_mut_slice.result.now) (sym c.as_slice.ensures)
     (subst (λ (n : ℕ). (k d : ℕ) → k < length part.points → get_or part.points k d < n) (sym (ap length c.as_mut_slice.ensures.value ∙ c.loop-component.invariant.count)) (c.components_are_closed.ensures.points s part is))
 
-pub place-requires-clause-ascend : goal.place-requires-clause-ascend
-place-requires-clause-ascend c = subst (λ (ps : List ℕ). IsStrictlySortedBy nat_cmp ps) (sym c.as_slice.ensures)
+pub put_values-requires-clause-ascend : goal.put_values-requires-clause-ascend
+put_values-requires-clause-ascend c = subst (λ (ps : List ℕ). IsStrictlySortedBy nat_cmp ps) (sym c.as_slice.ensures)
     (c.requires.components.each c.loop-component.component-index c.component-item.result
     (slice_get_read c.args.components.now (length c.args.components.now) c.loop-component.component-index c.component-item.result refl c.loop-component-test.true c.component-item.is)).points_ascend
 
@@ -50,11 +50,11 @@ loop-component-preserved c =
       | in-Values+in_ok-push-in-Values w ↦
           let t = values_step c.links_are_equivalences.ensures s cs c.requires.components n part there c.loop-component.parts.items c.loop-component.all.items c.loop-component.invariant.count c.loop-component.invariant.each c.loop-component.invariant.gathered
           c.loop-component.caused c.loop-component.invariant.caused now.parts.items now.all.items now.caused
-          w.in-Values.values w.as_slice.result.now w.as_slice-in-Values.result.now w.as_mut_slice.result.now w.place.new.all
+          w.in-Values.values w.as_slice.result.now w.as_slice-in-Values.result.now w.as_mut_slice.result.now w.put_values.new.all
           (subst (λ (f : Found). IsFound s part f) w.in-Values.is c.in_ok-refutation.ensures.found) w.as_slice.ensures w.as_slice-in-Values.ensures w.as_mut_slice.ensures.value
-          w.place.ensures.length w.place.ensures.among w.place.ensures.kept
+          w.put_values.ensures.length w.put_values.ensures.among w.put_values.ensures.kept
           (ap (λ v. v.items) w.parts-is ∙ w.in_ok-push-in-Values.ensures.items)
-          (ap (λ v. v.items) w.all-is ∙ with_items_is c.loop-component.all w.place.new.all (w.place.ensures.length ∙ ap length w.as_mut_slice.ensures.value ∙ sym c.loop-component.all.ok.0)) w.caused-is in
+          (ap (λ v. v.items) w.all-is ∙ with_items_is c.loop-component.all w.put_values.new.all (w.put_values.ensures.length ∙ ap length w.as_mut_slice.ensures.value ∙ sym c.loop-component.all.ok.0)) w.caused-is in
           record { count = t.0; each = t.1; gathered = t.2; caused = t.3; sums = c.settle_one.ensures.sums ∙ c.loop-component.invariant.sums; stops = c.settle_one.ensures.stops ∙ c.loop-component.invariant.stops }
       | in-Wide+in_ok-push-in-Wide w ↦
           let t = wide_step c.links_are_equivalences.ensures s cs c.requires.components n part there c.loop-component.parts.items c.loop-component.all.items c.loop-component.invariant.count c.loop-component.invariant.each c.loop-component.invariant.gathered

@@ -7,8 +7,8 @@ use Rattle.xc_joint.proofs.small.bound_at.Goals as goal
 
 pub returns-clause-bounds : goal.returns-clause-bounds
 returns-clause-bounds c =
-    at_bounds c.args.range.now c.args.value.now c.value.result c.value-2.result c.low_tiny.result c.high_tiny.result c.in_ok-low.low c.in_ok-high.high c.least.result
-    c.value.ensures c.value-2.ensures c.low_tiny.ensures.same c.high_tiny.ensures.same c.in_ok-low.ensures.bounds c.in_ok-high.ensures.bounds c.least.ensures.positive c.least.ensures.under
+    at_bounds c.args.range.now c.args.value.now c.value.result c.value-2.result c.low_tiny.result c.high_tiny.result c.in_ok-low.low c.in_ok-high.high c.lesser_bound.result
+    c.value.ensures c.value-2.ensures c.low_tiny.ensures.same c.high_tiny.ensures.same c.in_ok-low.ensures.bounds c.in_ok-high.ensures.bounds c.lesser_bound.ensures.positive c.lesser_bound.ensures.under
 
 pub returns-in_err-low-clause-room : goal.returns-in_err-low-clause-room
 returns-in_err-low-clause-room c = λ w room within.
@@ -24,6 +24,6 @@ pub returns-clause-room : goal.returns-clause-room
 returns-clause-room c = λ w room within.
     let low = subst (IsWithin w.d w.r) (sym c.value.ensures) within.low in
     let high = subst (IsWithin w.d w.r) (sym c.value-2.ensures) within.high in
-    c.least.ensures.over w
+    c.lesser_bound.ensures.over w
     (c.in_ok-low.ensures.room w room within.real low (end_first w c.low_tiny.result c.args.value.now.tiny c.low_tiny.ensures.tiny within.tiny))
     (c.in_ok-high.ensures.room w room high within.real (end_last w c.args.value.now.tiny c.high_tiny.result within.tiny c.high_tiny.ensures.tiny))

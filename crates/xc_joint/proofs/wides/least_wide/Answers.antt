@@ -3,8 +3,8 @@ use Rattle.xc_joint.proofs.WideFacts.{wide_more, wide_of_all}
 use Rattle.xc_joint.proofs.wides.least_wide.Goals as goal
 
 pub loop-point-preserved : goal.loop-point-preserved
-loop-point-preserved c = wide_more c.args.system.now c.args.component.now c.loop-point.point-index (get_or c.as_slice-point-items.result.now c.loop-point.point-index 0) c.loop-point.least c.wide_at.result c.lesser-least.result
-    (ap (λ (ps : List ℕ). get_or ps c.loop-point.point-index 0) c.as_slice-point-items.ensures) c.lesser-least.ensures c.loop-point.invariant c.wide_at.ensures
+loop-point-preserved c = wide_more c.args.system.now c.args.component.now c.loop-point.point-index (get_or c.as_slice-point-items.result.now c.loop-point.point-index 0) c.loop-point.least c.wide_at.result c.lesser_number-least.result
+    (ap (λ (ps : List ℕ). get_or ps c.loop-point.point-index 0) c.as_slice-point-items.ensures) c.lesser_number-least.ensures c.loop-point.invariant c.wide_at.ensures
 
 pub wide_at-requires : goal.wide_at-requires
 wide_at-requires c = subst (λ (ps : List ℕ). get_or ps c.loop-point.point-index 0 < c.args.system.now.points) (sym c.as_slice-point-items.ensures)

@@ -10,7 +10,7 @@ pub loop-number-preserved : goal.loop-number-preserved
 loop-number-preserved c =
     let lows = turns c.args.refutation.now.lows c.loop-number.lows.now c.loop-number.number c.loop-number.invariant.lows in
     let highs = turns c.args.refutation.now.highs c.loop-number.highs.now c.loop-number.number c.loop-number.invariant.highs in
-    let named : c.either.result ≡ is_named c.args.refutation.now c.loop-number.number = c.either.ensures ∙ (λ i. (c.taken-is_low.ensures.named ∙ lows.named) i || (c.taken-is_high.ensures.named ∙ highs.named) i) in
+    let named : c.either.result ≡ is_named c.args.refutation.now c.loop-number.number = c.either.ensures ∙ (λ i. (c.take_number-is_low.ensures.named ∙ lows.named) i || (c.take_number-is_high.ensures.named ∙ highs.named) i) in
     let grown : string_bytes c.push_if_named.new.out ≡ string_bytes c.loop-number.out ++ cond c.either.result (because_line c.loop-number.number c.index-facts-number.result.id) [] = search rules in
     let piece : string_bytes c.push_if_named.new.out ≡ string_bytes c.loop-number.out ++ cond (is_named c.args.refutation.now c.loop-number.number) (because_line c.loop-number.number c.index-facts-number.result.id) [] =
     grown ∙ ap (λ b. string_bytes c.loop-number.out ++ cond b (because_line c.loop-number.number c.index-facts-number.result.id) []) named in
@@ -18,6 +18,6 @@ loop-number-preserved c =
     let cut = ap (λ facts. because_lines c.args.refutation.now (enumerate_from c.loop-number.number facts)) next ∙ because_more c.args.refutation.now c.loop-number.number c.index-facts-number.result (drop (c.loop-number.number + 1) c.args.facts.now) in
     record {
       text = one_more _ _ _ _ _ _ piece cut c.loop-number.invariant.text;
-      lows = subst (λ left. IsLeft c.args.refutation.now.lows left (c.loop-number.number + 1)) (sym c.taken-is_low.ensures.left) lows.rest;
-      highs = subst (λ left. IsLeft c.args.refutation.now.highs left (c.loop-number.number + 1)) (sym c.taken-is_high.ensures.left) highs.rest;
+      lows = subst (λ left. IsLeft c.args.refutation.now.lows left (c.loop-number.number + 1)) (sym c.take_number-is_low.ensures.left) lows.rest;
+      highs = subst (λ left. IsLeft c.args.refutation.now.highs left (c.loop-number.number + 1)) (sym c.take_number-is_high.ensures.left) highs.rest;
     }

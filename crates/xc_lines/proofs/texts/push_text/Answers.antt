@@ -5,14 +5,14 @@ use Rattle.std.proofs.lemmas.Iterator.{YieldsList-from_chars}
 use Rattle.std.proofs.lemmas.List.{at_drop_more, at_drop_all, length_push}
 use Rattle.std.proofs.lemmas.Iterator.Consumers.{YieldsList-turn, YieldsList-end}
 use Rattle.std.proofs.lemmas.Grind.{common_steps}
-use Rattle.xc_lines.specs.Lines.{printed, printed_char}
+use Rattle.xc_lines.specs.Lines.{printed_text, printed_char}
 use Rattle.xc_lines.proofs.Appended.{one_more}
 use Rattle.xc_lines.proofs.texts.push_text.Goals as goal
 
 next_printed : (cs : List ℕ) (n c : ℕ) → (n < length cs) × (c ≡ get_or cs n c) → flat_map printed_char (drop n cs) ≡ printed_char c ++ flat_map printed_char (drop (n + 1) cs)
 next_printed cs n c h = at_drop_more (flat_map printed_char) cs n c h.0 ∙ ap (λ x. printed_char x ++ flat_map printed_char (drop (n + 1) cs)) (sym h.1)
 
-printed_some : (text : List ℕ) → 0 < length text → printed text ≡ flat_map printed_char (chars text)
+printed_some : (text : List ℕ) → 0 < length text → printed_text text ≡ flat_map printed_char (chars text)
 printed_some [] some = absurd (omega arith)
 printed_some (byte ∷ bytes) some = refl
 

@@ -3,7 +3,7 @@ use Rattle.xc_interval.specs.Ends.{value_of, is_open}
 use Rattle.xc_interval.specs.declared.interval.Interval.{Interval}
 use Rattle.xc_model.specs.Ratio.{Ratio, IsOver}
 use Rattle.xc_corners.specs.Corners.{high_bound}
-use Rattle.xc_corners.specs.WholeNumbers.{whole}
+use Rattle.xc_corners.specs.WholeNumbers.{whole_problem}
 use Rattle.xc_pivot.proofs.Beside.{high_parts, zero_parts}
 use Rattle.xc_pivot.proofs.Placed.{read_at}
 use Rattle.xc_pivot.proofs.bounds.high_of.Goals as goal
@@ -22,4 +22,4 @@ pub returns : goal.returns
 returns c =
     let problem = c.args.problem.now in
     let past = rw c.as_slice-ranges.ensures at c.if-variable-ranges.false in
-    record { high = zero_parts (whole problem).unit (high_bound (whole problem) c.args.variable) c.zero.result (c.problems_are_whole.ensures.whole problem c.requires.problem).unit (c.problems_are_whole.ensures.zeros problem c.args.variable past).1 c.zero.ensures.real c.zero.ensures.tiny }
+    record { high = zero_parts (whole_problem problem).unit (high_bound (whole_problem problem) c.args.variable) c.zero.result (c.problems_are_whole.ensures.whole problem c.requires.problem).unit (c.problems_are_whole.ensures.zeros problem c.args.variable past).1 c.zero.ensures.real c.zero.ensures.tiny }

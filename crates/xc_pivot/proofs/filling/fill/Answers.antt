@@ -2,9 +2,9 @@ use Rattle.std.proofs.Common.{◌≡◌, List, length, sym, ap, subst, ◌∙◌
 use Rattle.std.specs.Vec.{with_items}
 use Rattle.std.proofs.lemmas.List.{with_items_is}
 use Rattle.xc_lists.proofs.Outcomes.{if_done}
-use Rattle.xc_corners.specs.Choices.{first}
+use Rattle.xc_corners.specs.Choices.{first_corner}
 use Rattle.xc_corners.specs.Tables.{first_factors}
-use Rattle.xc_corners.specs.WholeNumbers.{whole}
+use Rattle.xc_corners.specs.WholeNumbers.{whole_problem}
 use Rattle.xc_frac.specs.declared.delta.Delta.{Delta}
 use Rattle.xc_frac.specs.declared.wide.Wide.{Wide}
 use Rattle.xc_model.specs.Ratio.{Ratio}
@@ -37,7 +37,7 @@ returns c =
     record {
       places = λ i. s.places;
       shaped = if_done r _ _ (IsShaped problem final) c.low_values.ensures.is c.low_values.ensures.stays (λ lows stays. shaped);
-      at = if_done r _ _ (IsAt problem final (first (whole problem)) (first_factors (whole problem))) c.low_values.ensures.is c.low_values.ensures.stays
+      at = if_done r _ _ (IsAt problem final (first_corner (whole_problem problem)) (first_factors (whole_problem problem))) c.low_values.ensures.is c.low_values.ensures.stays
           (λ lows stays. first_at problem final shaped c.requires.places (laws.whole problem c.requires.problem) c.solved_forms.ensures.first c.basic_variables.ensures.first laws.factors laws.rows (laws.variables problem).0 (laws.variables problem).1 o.sums
           (subst (λ (vs : List (Delta Ratio)). HasLowSums problem (length problem.rows) vs) (sym is) lows));
       fits = if_done r _ _ ((w : Wide) → ¬ PassesFirst problem w) c.low_values.ensures.is c.low_values.ensures.stays (λ lows stays. first_stays problem o.stays stays);

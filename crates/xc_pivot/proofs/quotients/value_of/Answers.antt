@@ -1,5 +1,5 @@
 use Rattle.std.proofs.Common.{refl, true, false, inl, inr, arith}
-use Rattle.xc_corners.specs.WholeNumbers.{whole}
+use Rattle.xc_corners.specs.WholeNumbers.{whole_problem}
 use Rattle.xc_pivot.specs.declared.types.Place.TheVariants.{Row, High, Low}
 use Rattle.xc_pivot.proofs.Placed.{read_at, place_at, row_inside, column_other, other_value}
 use Rattle.xc_pivot.proofs.quotients.value_of.Goals as goal
@@ -24,7 +24,7 @@ returns-in-Low c = record {
   value = λ x t at.
       let s = c.args.state.now in
       let here = place_at s.places.items c.args.variable c.index.result.now (Low c.in-Low.field-0) c.requires.variable c.index.ensures c.in-Low.is in
-      other_value c.values_at_corners.ensures.others (whole c.args.problem.now) x t c.args.variable false c.low_of.result at.solved.positive (column_other _ _ x s.places.items c.args.variable c.in-Low.field-0 at.placed (inl here)) (at.placed.high c.args.variable (Low c.in-Low.field-0) here) c.low_of.ensures.low;
+      other_value c.values_at_corners.ensures.others (whole_problem c.args.problem.now) x t c.args.variable false c.low_of.result at.solved.positive (column_other _ _ x s.places.items c.args.variable c.in-Low.field-0 at.placed (inl here)) (at.placed.high c.args.variable (Low c.in-Low.field-0) here) c.low_of.ensures.low;
 }
 
 pub returns-in-High : goal.returns-in-High
@@ -32,5 +32,5 @@ returns-in-High c = record {
   value = λ x t at.
       let s = c.args.state.now in
       let here = place_at s.places.items c.args.variable c.index.result.now (High c.in-High.field-0) c.requires.variable c.index.ensures c.in-High.is in
-      other_value c.values_at_corners.ensures.others (whole c.args.problem.now) x t c.args.variable true c.high_of.result at.solved.positive (column_other _ _ x s.places.items c.args.variable c.in-High.field-0 at.placed (inr here)) (at.placed.high c.args.variable (High c.in-High.field-0) here) c.high_of.ensures.high;
+      other_value c.values_at_corners.ensures.others (whole_problem c.args.problem.now) x t c.args.variable true c.high_of.result at.solved.positive (column_other _ _ x s.places.items c.args.variable c.in-High.field-0 at.placed (inr here)) (at.placed.high c.args.variable (High c.in-High.field-0) here) c.high_of.ensures.high;
 }

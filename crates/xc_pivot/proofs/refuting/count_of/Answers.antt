@@ -47,8 +47,8 @@ returns-in-Low c x t at =
     let here = place_at s.places.items c.args.variable c.index.result.now (Low c.in-Low.column) c.requires.variable c.index.ensures c.in-Low.is in
     let other = column_other _ _ x s.places.items c.args.variable c.in-Low.column at.placed (inl here) in
     let basic = row_basic _ _ x s.places.items b c.args.leaving.row at.placed c.requires.row in
-    other_over x t c.args.leaving.above b c.signed.result c.args.variable (apart x c.args.variable b basic other) other
-    (c.signed.ensures (t.factor b c.args.variable) t.over (at.factors b c.args.variable c.args.leaving.row c.in-Low.column c.entry.result c.requires.row (inl here) c.entry.ensures))
+    other_over x t c.args.leaving.above b c.number_with_sign.result c.args.variable (apart x c.args.variable b basic other) other
+    (c.number_with_sign.ensures (t.factor b c.args.variable) t.over (at.factors b c.args.variable c.args.leaving.row c.in-Low.column c.entry.result c.requires.row (inl here) c.entry.ensures))
 
 pub returns-in-High : goal.returns-in-High
 returns-in-High c x t at =
@@ -57,5 +57,5 @@ returns-in-High c x t at =
     let here = place_at s.places.items c.args.variable c.index.result.now (High c.in-High.column) c.requires.variable c.index.ensures c.in-High.is in
     let other = column_other _ _ x s.places.items c.args.variable c.in-High.column at.placed (inr here) in
     let basic = row_basic _ _ x s.places.items b c.args.leaving.row at.placed c.requires.row in
-    other_over x t c.args.leaving.above b c.signed-in-High.result c.args.variable (apart x c.args.variable b basic other) other
-    (c.signed-in-High.ensures (t.factor b c.args.variable) t.over (at.factors b c.args.variable c.args.leaving.row c.in-High.column c.entry-in-High.result c.requires.row (inr here) c.entry-in-High.ensures))
+    other_over x t c.args.leaving.above b c.number_with_sign-in-High.result c.args.variable (apart x c.args.variable b basic other) other
+    (c.number_with_sign-in-High.ensures (t.factor b c.args.variable) t.over (at.factors b c.args.variable c.args.leaving.row c.in-High.column c.entry-in-High.result c.requires.row (inr here) c.entry-in-High.ensures))

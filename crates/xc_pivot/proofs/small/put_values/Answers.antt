@@ -4,7 +4,7 @@ use Rattle.std.proofs.lemmas.Bool.{cases_eq}
 use Rattle.std.proofs.lemmas.List.{length-set}
 use Rattle.std.proofs.lemmas.Option.{slice_get_within}
 use Rattle.xc_corners.specs.Ending.{IsValueWith}
-use Rattle.xc_corners.specs.WholeNumbers.{whole}
+use Rattle.xc_corners.specs.WholeNumbers.{whole_problem}
 use Rattle.xc_model.specs.Ratio.{Ratio}
 use Rattle.xc_pivot.specs.SmallValues.{ValueStays}
 use Rattle.xc_pivot.proofs.Placed.{written_at, unwritten_at}
@@ -20,7 +20,7 @@ returns-in-Err-clause-passes c x t at = record {
 pub loop-variable-preserved : goal.loop-variable-preserved
 loop-variable-preserved c =
     let l = c.loop-variable in
-    let p = whole c.args.problem.now in
+    let p = whole_problem c.args.problem.now in
     record {
       count = omega (arith, length-set l.values l.variable c.in-Ok.value, l.invariant.count);
       are = λ x t at j v small e. ⊎_elim

@@ -1,12 +1,12 @@
 use Rattle.std.proofs.Common.{◌≡◌, ℕ, List, Some, slice_get, length, sym, ap, subst, ◌∙◌, arith}
 use Rattle.std.proofs.lemmas.List.{length-set}
-use Rattle.xc_corners.specs.WholeNumbers.{whole}
+use Rattle.xc_corners.specs.WholeNumbers.{whole_problem}
 use Rattle.xc_frac.specs.declared.delta.Delta.{Delta}
 use Rattle.xc_model.specs.Ratio.{Ratio}
 use Rattle.xc_tableau.specs.Exchanges.{PassesIn}
 use Rattle.xc_tableau.specs.Tables.{Table, IsFilled}
 use Rattle.xc_tableau.specs.Exchanges.{IsExchanged}
-use Rattle.xc_pivot.specs.Steps.{AreMoved, replaced}
+use Rattle.xc_pivot.specs.Steps.{AreMoved, places_after_exchange}
 use Rattle.xc_pivot.specs.declared.types.Place.{Place}
 use Rattle.xc_pivot.proofs.Exchanges.{next_at, nothing_passes, table_passes}
 use Rattle.xc_pivot.proofs.Placed.{row_inside, column_inside, row_within, column_within}
@@ -16,8 +16,8 @@ use Rattle.xc_pivot.proofs.stepping.exchange.Goals as goal
 pub returns-in-Err-clause-passes : goal.returns-in-Err-clause-passes
 returns-in-Err-clause-passes c x t at chosen = c.in-Err.ensures.passes x t at
 
-pub returns-in-Err-entering_moved-clause-passes : goal.returns-in-Err-entering_moved-clause-passes
-returns-in-Err-entering_moved-clause-passes c x t at chosen = c.in-Err-entering_moved.ensures.passes x t at (c.in-Ok.ensures.is x t at)
+pub returns-in-Err-entering_value-clause-passes : goal.returns-in-Err-entering_value-clause-passes
+returns-in-Err-entering_value-clause-passes c x t at chosen = c.in-Err-entering_value.ensures.passes x t at (c.in-Ok.ensures.is x t at)
 
 pub returns-in-Err-move_values-clause-passes : goal.returns-in-Err-move_values-clause-passes
 returns-in-Err-move_values-clause-passes c x t at chosen = c.in-Err-move_values.ensures.passes x t at (c.in-Ok.ensures.is x t at)
@@ -41,13 +41,13 @@ returns-in-Err-pivot-clause-passes c x t at chosen =
 pub put_value-requires : goal.put_value-requires
 put_value-requires c = omega (arith, c.in_default.ensures.count, row_inside c.args.problem.now c.args.state.now c.args.choice.now.leaving.variable c.args.choice.now.leaving.row c.requires.shaped c.requires.chosen.row, c.requires.shaped.values)
 
-pub replace-requires-clause-leaving : goal.replace-requires-clause-leaving
-replace-requires-clause-leaving c =
+pub exchange_places-requires-clause-leaving : goal.exchange_places-requires-clause-leaving
+exchange_places-requires-clause-leaving c =
     let count = ap (λ v. length v.items) (c.put_value.ensures.places ∙ c.in_default.ensures.places) in
     omega (arith, count, row_within c.args.state.now.places.items c.args.choice.now.leaving.variable c.args.choice.now.leaving.row c.requires.chosen.row)
 
-pub replace-requires-clause-entering : goal.replace-requires-clause-entering
-replace-requires-clause-entering c =
+pub exchange_places-requires-clause-entering : goal.exchange_places-requires-clause-entering
+exchange_places-requires-clause-entering c =
     let count = ap (λ v. length v.items) (c.put_value.ensures.places ∙ c.in_default.ensures.places) in
     omega (arith, count, column_within c.args.state.now.places.items c.args.choice.now.entering.variable c.args.choice.now.entering.column c.requires.chosen.column)
 
@@ -56,11 +56,11 @@ returns-clause-shaped c =
     let s = c.args.state.now in
     let o = c.args.choice.now in
     let problem = c.args.problem.now in
-    let final = c.replace.new.state in
-    let table = c.replace.ensures.table ∙ c.put_value.ensures.table in
+    let final = c.exchange_places.new.state in
+    let table = c.exchange_places.ensures.table ∙ c.put_value.ensures.table in
     let exchanged = subst (λ v. IsExchanged v o.leaving.row o.entering.column final.table) c.in_default.ensures.table (subst (λ v. IsExchanged c.move_values.new.state.table o.leaving.row o.entering.column v) (sym table) c.in_default-pivot.ensures.exchanged) in
-    let values = ap (λ v. length v.items) c.replace.ensures.values ∙ ap (λ (vs : List (Delta Ratio)). length vs) c.put_value.ensures.values ∙ length-set c.move_values.new.state.values.items o.leaving.row c.in-Ok-entering_moved.entering in
-    let places = c.replace.ensures.places ∙ ap (λ v. replaced problem o v.items) (c.put_value.ensures.places ∙ c.in_default.ensures.places) in
+    let values = ap (λ v. length v.items) c.exchange_places.ensures.values ∙ ap (λ (vs : List (Delta Ratio)). length vs) c.put_value.ensures.values ∙ length-set c.move_values.new.state.values.items o.leaving.row c.in-Ok-entering_value.entering in
+    let places = c.exchange_places.ensures.places ∙ ap (λ v. places_after_exchange problem o v.items) (c.put_value.ensures.places ∙ c.in_default.ensures.places) in
     record {
       filled = subst (λ (u : Table). IsFilled u) (sym table) c.in_default-pivot.ensures.filled;
       rows = exchanged.rows ∙ c.requires.shaped.rows;
@@ -77,18 +77,18 @@ returns-clause-at c x t at chosen =
     let s = c.args.state.now in
     let o = c.args.choice.now in
     let problem = c.args.problem.now in
-    let final = c.replace.new.state in
+    let final = c.exchange_places.new.state in
     let vs = c.move_values.new.state.values.items in
     let laws = c.operations_give_factors.ensures in
-    let table = c.replace.ensures.table ∙ c.put_value.ensures.table in
+    let table = c.exchange_places.ensures.table ∙ c.put_value.ensures.table in
     let exchanged = subst (λ v. IsExchanged v o.leaving.row o.entering.column final.table) c.in_default.ensures.table (subst (λ v. IsExchanged c.move_values.new.state.table o.leaving.row o.entering.column v) (sym table) c.in_default-pivot.ensures.exchanged) in
-    let values = ap (λ v. v.items) c.replace.ensures.values ∙ c.put_value.ensures.values in
-    let places = c.replace.ensures.places ∙ ap (λ v. replaced problem o v.items) (c.put_value.ensures.places ∙ c.in_default.ensures.places) in
+    let values = ap (λ v. v.items) c.exchange_places.ensures.values ∙ c.put_value.ensures.values in
+    let places = c.exchange_places.ensures.places ∙ ap (λ v. places_after_exchange problem o v.items) (c.put_value.ensures.places ∙ c.in_default.ensures.places) in
     let step = c.in-Ok.ensures.is x t at in
-    let rest = subst (λ (n : ℕ). AreMoved (whole problem) x t o s.places.items n vs) (sym c.in_default.ensures.count) (c.in_default.ensures.done x t at step) in
-    next_at problem s x t o c.requires.shaped at chosen (c.requires.shaped.places ∙ sym (c.problems_are_whole.ensures.variables problem).1) final vs c.in-Ok-entering_moved.entering (c.problems_are_whole.ensures.whole problem c.requires.problem)
+    let rest = subst (λ (n : ℕ). AreMoved (whole_problem problem) x t o s.places.items n vs) (sym c.in_default.ensures.count) (c.in_default.ensures.done x t at step) in
+    next_at problem s x t o c.requires.shaped at chosen (c.requires.shaped.places ∙ sym (c.problems_are_whole.ensures.variables problem).1) final vs c.in-Ok-entering_value.entering (c.problems_are_whole.ensures.whole problem c.requires.problem)
     c.basic_variables.ensures.exchanged c.solved_forms.ensures.next laws.entering laws.leaving laws.others c.operations_give_values.ensures.entering c.operations_give_values.ensures.basic
-    exchanged values places (c.in_default.ensures.count ∙ c.requires.shaped.values) (c.in-Ok-entering_moved.ensures.is x t at step) rest
+    exchanged values places (c.in_default.ensures.count ∙ c.requires.shaped.values) (c.in-Ok-entering_value.ensures.is x t at step) rest
 
 pub returns-clause-fits : goal.returns-clause-fits
 returns-clause-fits c x t at chosen w h =
@@ -97,7 +97,7 @@ returns-clause-fits c x t at chosen w h =
     let problem = c.args.problem.now in
     let vs = c.move_values.new.state.values.items in
     let step = c.in-Ok.ensures.is x t at in
-    let rest = subst (λ (n : ℕ). AreMoved (whole problem) x t o s.places.items n vs) (sym c.in_default.ensures.count) (c.in_default.ensures.done x t at step) in
-    nothing_passes problem s x t o c.requires.shaped at chosen (c.requires.shaped.places ∙ sym (c.problems_are_whole.ensures.variables problem).1) vs c.in-Ok.step c.in-Ok-entering_moved.entering
+    let rest = subst (λ (n : ℕ). AreMoved (whole_problem problem) x t o s.places.items n vs) (sym c.in_default.ensures.count) (c.in_default.ensures.done x t at step) in
+    nothing_passes problem s x t o c.requires.shaped at chosen (c.requires.shaped.places ∙ sym (c.problems_are_whole.ensures.variables problem).1) vs c.in-Ok.step c.in-Ok-entering_value.entering
     (λ v p. c.in_default-pivot.ensures.fits v (subst (λ (u : Table). PassesIn u o.leaving.row o.entering.column v) (sym c.in_default.ensures.table) p))
-    (c.in_default.ensures.count ∙ c.requires.shaped.values) step (c.in-Ok-entering_moved.ensures.is x t at step) rest w h
+    (c.in_default.ensures.count ∙ c.requires.shaped.values) step (c.in-Ok-entering_value.ensures.is x t at step) rest w h

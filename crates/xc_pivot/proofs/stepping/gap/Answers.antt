@@ -1,7 +1,7 @@
 use Rattle.std.proofs.Common.{inr, refl, subst, arith}
 use Rattle.xc_model.proofs.Results.{over_one}
 use Rattle.xc_corners.specs.Operations.{gap_taken}
-use Rattle.xc_corners.specs.WholeNumbers.{whole}
+use Rattle.xc_corners.specs.WholeNumbers.{whole_problem}
 use Rattle.xc_frac.specs.Passes.{Passes}
 use Rattle.xc_frac.specs.declared.wide.Op.TheVariants.{Sub}
 use Rattle.xc_model.specs.Ratio.{Ratio}
@@ -24,7 +24,7 @@ returns-clause-is c x t at =
     let value = c.index.result.now in
     let there = read_at s.values.items s.values.items l.row value refl (omega (arith, row_inside c.args.problem.now s l.variable l.row c.requires.shaped c.requires.chosen.row, c.requires.shaped.values)) c.index.ensures in
     let is_value = at.values l.variable l.row value c.requires.chosen.row there in
-    if_each c.difference.result Sub (of_part limit) (of_part value) (IsGapOf (whole c.args.problem.now) x t c.args.choice.now) c.difference.ensures.gives c.difference.ensures.stays
+    if_each c.difference.result Sub (of_part limit) (of_part value) (IsGapOf (whole_problem c.args.problem.now) x t c.args.choice.now) c.difference.ensures.gives c.difference.ensures.stays
     (λ d gives stays. record {
       gap = λ k. record { limit = of_part limit k; is_limit = c.passed_bound.ensures.bound k; value = of_part value k; is_value = is_value k; gives = gives k };
       stays = λ k f v limits values passes. stays k (subst (λ (h : Ratio). Passes Sub h (of_part value k)) (over_one f (of_part limit k) _ _ limits (c.passed_bound.ensures.bound k)) (subst (λ (h : Ratio). Passes Sub f h) (over_one v (of_part value k) _ _ values (is_value k)) passes));
@@ -37,5 +37,5 @@ returns-clause-passes c x t at =
     let limit = c.passed_bound.result in
     let value = c.index.result.now in
     let there = read_at s.values.items s.values.items l.row value refl (omega (arith, row_inside c.args.problem.now s l.variable l.row c.requires.shaped c.requires.chosen.row, c.requires.shaped.values)) c.index.ensures in
-    if_one c.difference.result Sub (of_part limit) (of_part value) (PassesNext (whole c.args.problem.now) x t c.args.choice.now) c.difference.ensures.passes
+    if_one c.difference.result Sub (of_part limit) (of_part value) (PassesNext (whole_problem c.args.problem.now) x t c.args.choice.now) c.difference.ensures.passes
     (λ k p. record { stands = inr (gap_taken k (of_part limit k) (of_part value k) (c.passed_bound.ensures.bound k) (at.values l.variable l.row value c.requires.chosen.row there k) refl); passes = p })

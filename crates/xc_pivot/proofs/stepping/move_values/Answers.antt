@@ -3,7 +3,7 @@ use Rattle.std.specs.Prelude.{OnOk}
 use Rattle.std.specs.Vec.{with_items}
 use Rattle.xc_pivot.proofs.Placed.{column_inside}
 use Rattle.std.proofs.lemmas.List.{with_items_is}
-use Rattle.xc_corners.specs.WholeNumbers.{whole}
+use Rattle.xc_corners.specs.WholeNumbers.{whole_problem}
 use Rattle.xc_frac.specs.declared.delta.Delta.{Delta}
 use Rattle.xc_model.specs.Ratio.{Ratio}
 use Rattle.xc_pivot.specs.Steps.{AreBasicAt, AreMoved}
@@ -14,7 +14,7 @@ pub returns : goal.returns
 returns c =
     let s = c.args.state.now in
     let choice = c.args.choice.now in
-    let p = whole c.args.problem.now in
+    let p = whole_problem c.args.problem.now in
     let lent = c.as_mut_slice.ensures.value in
     let written = c.move_others.new.values in
     let filled : length written ≡ s.values.len = omega (arith, ap (λ (vs : List (Delta Ratio)). length vs) lent, s.values.ok.0, c.move_others.ensures.count) in

@@ -1,11 +1,11 @@
 use Rattle.std.proofs.Common.{◌≡◌, ℕ, suc, ◌+◌, ◌<◌, ◌≤◌, refl, sym, subst, arith, length, ◌⊎◌, inl, inr}
 use Rattle.std.proofs.lemmas.Bool.{cases_lt}
-use Rattle.xc_corners.specs.Choices.{first, exchanged, IsReachedBy}
+use Rattle.xc_corners.specs.Choices.{first_corner, corner_after_exchange, IsReachedBy}
 use Rattle.xc_corners.specs.Corners.{Corner}
 use Rattle.xc_corners.specs.Operations.{PassesAt}
 use Rattle.xc_corners.specs.Problems.{IsWholeProblem}
-use Rattle.xc_corners.specs.Tables.{first_factors, pivoted}
-use Rattle.xc_corners.specs.WholeNumbers.{whole}
+use Rattle.xc_corners.specs.Tables.{first_factors, factors_after_exchange}
+use Rattle.xc_corners.specs.WholeNumbers.{whole_problem}
 use Rattle.xc_corners.specs.declared.problem.Problem.{Problem}
 use Rattle.xc_frac.specs.declared.wide.Wide.{Wide}
 use Rattle.xc_model.proofs.Over.{sign_over}
@@ -16,25 +16,25 @@ use Rattle.xc_pivot.proofs.Exchanges.{helps_some}
 use Rattle.xc_pivot.proofs.walking.run.Goals as goal
 
 -- one turn more, and at none before it an operation passes
-before_next : CornerLaws → (problem : Problem) → IsWholeProblem (whole problem) → (x : Corner) (n : ℕ) → IsReachedBy (whole problem) n x
-    → ((k : ℕ) (y : Corner) (v : Wide) → k < n → IsReachedBy (whole problem) k y → ¬ PassesAt problem y v) → ((v : Wide) → ¬ PassesAt problem x v)
-    → (k : ℕ) (y : Corner) (v : Wide) → k < n + 1 → IsReachedBy (whole problem) k y → ¬ PassesAt problem y v
+before_next : CornerLaws → (problem : Problem) → IsWholeProblem (whole_problem problem) → (x : Corner) (n : ℕ) → IsReachedBy (whole_problem problem) n x
+    → ((k : ℕ) (y : Corner) (v : Wide) → k < n → IsReachedBy (whole_problem problem) k y → ¬ PassesAt problem y v) → ((v : Wide) → ¬ PassesAt problem x v)
+    → (k : ℕ) (y : Corner) (v : Wide) → k < n + 1 → IsReachedBy (whole_problem problem) k y → ¬ PassesAt problem y v
 before_next laws problem w x n reached before here k y v h r = go (cases_lt k n)
   where
     go : ((k < n) ⊎ (n ≤ k)) → ¬ PassesAt problem y v
     go (inl less) = before k y v less r
     go (inr more) =
         let e : k ≡ n = omega (arith, h, more) in
-        subst (λ z. ¬ PassesAt problem z v) (laws.run (whole problem) n x y w reached (subst (λ m. IsReachedBy (whole problem) m y) e r)) (here v)
+        subst (λ z. ¬ PassesAt problem z v) (laws.run (whole_problem problem) n x y w reached (subst (λ m. IsReachedBy (whole_problem problem) m y) e r)) (here v)
 
 pub loop-choice-init : goal.loop-choice-init
 loop-choice-init g c = record {
   shaped = c.requires.shaped;
   turn = record {
-    corner = first (whole c.args.problem.now);
-    factors = first_factors (whole c.args.problem.now);
+    corner = first_corner (whole_problem c.args.problem.now);
+    factors = first_factors (whole_problem c.args.problem.now);
     at = c.requires.at;
-    reached = subst (λ n. IsReachedBy (whole c.args.problem.now) n (first (whole c.args.problem.now))) (sym c.new-turns.ensures) refl;
+    reached = subst (λ n. IsReachedBy (whole_problem c.args.problem.now) n (first_corner (whole_problem c.args.problem.now))) (sym c.new-turns.ensures) refl;
     before = λ k y w h r. absurd (omega (arith, h, c.new-turns.ensures));
   };
 }
@@ -87,16 +87,16 @@ loop-choice-preserved g c =
     let turn = c.loop-choice.invariant.turn in
     let choice = c.in-Some.choice in
     let chosen = c.in-Some.ensures.some turn.corner turn.factors turn.at in
-    let next = exchanged (whole problem) turn.corner choice.leaving.above choice.leaving.variable choice.entering.variable in
+    let next = corner_after_exchange (whole_problem problem) turn.corner choice.leaving.above choice.leaving.variable choice.entering.variable in
     let later : suc c.loop-choice.turns ≡ c.tick.new.self = omega (arith, c.tick.ensures) in
     record {
       shaped = c.in_default-exchange.ensures.shaped;
       turn = record {
         corner = next;
-        factors = pivoted turn.factors choice.leaving.variable choice.entering.variable;
+        factors = factors_after_exchange turn.factors choice.leaving.variable choice.entering.variable;
         at = c.in_default-exchange.ensures.at turn.corner turn.factors turn.at chosen;
-        reached = subst (λ n. IsReachedBy (whole problem) n next) later
-            (c.corner_laws.ensures.on (whole problem) c.loop-choice.turns turn.corner next choice.leaving.variable choice.entering.variable turn.reached
+        reached = subst (λ n. IsReachedBy (whole_problem problem) n next) later
+            (c.corner_laws.ensures.on (whole_problem problem) c.loop-choice.turns turn.corner next choice.leaving.variable choice.entering.variable turn.reached
             (exchange_of problem w turn.corner turn.factors turn.at.solved c.loop-choice.state.places.items choice chosen));
         before = λ k y v h r. before_next c.corner_laws.ensures problem w turn.corner c.loop-choice.turns turn.reached turn.before
             (none_at problem w turn.corner turn.factors turn.at.solved c.corner_laws.ensures c.requires.fits c.loop-choice.state.places.items choice chosen (c.in_default-exchange.ensures.fits turn.corner turn.factors turn.at chosen))

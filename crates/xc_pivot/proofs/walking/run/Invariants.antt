@@ -1,6 +1,6 @@
 use Rattle.std.proofs.Common.{◌-◌, ◌^◌}
 use Rattle.xc_corners.specs.Corners.{variables}
-use Rattle.xc_corners.specs.WholeNumbers.{whole}
+use Rattle.xc_corners.specs.WholeNumbers.{whole_problem}
 use Rattle.xc_pivot.specs.States.{IsShaped}
 use Rattle.xc_pivot.specs.Walks.{AtTurn}
 use Rattle.xc_pivot.proofs.walking.run.Given as goal
@@ -12,4 +12,4 @@ invariant-loop-choice g l = record {
 }
 
 abbrev pub decreases-loop-choice : goal.decreases-loop-choice
-decreases-loop-choice g l = 3 ^ variables (whole l.problem) - l.turns
+decreases-loop-choice g l = 3 ^ variables (whole_problem l.problem) - l.turns

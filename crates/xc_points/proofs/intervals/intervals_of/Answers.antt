@@ -8,7 +8,7 @@ loop-fact-init c = subst (λ done. AreFirstEnds c.args.mode c.args.facts.now 0 d
 
 pub loop-fact-preserved : goal.loop-fact-preserved
 loop-fact-preserved c =
-    subst (λ done. AreFirstEnds c.args.mode c.args.facts.now (c.loop-fact.fact-index + 1) done) (sym c.in_ok-note.ensures)
+    subst (λ done. AreFirstEnds c.args.mode c.args.facts.now (c.loop-fact.fact-index + 1) done) (sym c.in_ok-put_last.ensures)
     (one_more_end c.args.mode c.args.facts.now c.loop-fact.fact-index c.fact-item.result c.loop-fact.ends.items c.interval_of.result c.loop-fact-test.true c.fact-item.is c.interval_of.ensures c.loop-fact.invariant)
 
 pub returns : goal.returns

@@ -26,4 +26,4 @@ returns c s points equations =
     (c.in_ok-points.ensures ∙ ap (λ (l : List ℕ). map (places_with l) (before count)) c.as_slice-3.ensures.value)
     (c.in_ok-equations.ensures ∙ ap (λ (l : List ℕ). map (places_with l) (before count)) c.as_slice-4.ensures.value)
     is)
-    c.paired.ensures
+    c.pair_with_equations.ensures

@@ -13,13 +13,13 @@ keep_row-requires-clause-factor c =
 pub returns-then-is_zero-clause-entering : goal.returns-then-is_zero-clause-entering
 returns-then-is_zero-clause-entering c = entering_kept c.args.pivot.now c.args.entries.now c.args.new.now c.keep_row.new.new c.args.row c.keep_row.ensures.kept c.if-row-pivot.false c.requires.entering
 
-pub made-requires-clause-factor : goal.made-requires-clause-factor
-made-requires-clause-factor c =
+pub other_entry-requires-clause-factor : goal.other_entry-requires-clause-factor
+other_entry-requires-clause-factor c =
     let p = c.args.pivot.now in
     has_read (table p c.args.entries.now) c.args.row p.column c.place.result c.index-entries-place.result c.requires.pivot.filled c.place.ensures c.requires.row c.requires.pivot.column c.index-entries-place.is
 
-pub made-requires-clause-entering : goal.made-requires-clause-entering
-made-requires-clause-entering c =
+pub other_entry-requires-clause-entering : goal.other_entry-requires-clause-entering
+other_entry-requires-clause-entering c =
     let p = c.args.pivot.now in
     let l = c.loop-column in
     let room : length l.new ≡ p.rows * p.columns = omega arith in

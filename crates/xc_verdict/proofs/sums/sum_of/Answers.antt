@@ -5,10 +5,10 @@ use Rattle.xc_verdict.proofs.Loops.{next_term}
 use Rattle.xc_verdict.proofs.sums.sum_of.Goals as goal
 
 pub loop-term-init : goal.loop-term-init
-loop-term-init c = summed_none c.args.points.now c.args.binding.now c.nothing-sum.result c.requires.met c.nothing-sum.ensures.some c.nothing-sum.ensures.numbers c.nothing-sum.ensures.counted
+loop-term-init c = summed_none c.args.points.now c.args.binding.now c.zero_interval-sum.result c.requires.met c.zero_interval-sum.ensures.some c.zero_interval-sum.ensures.numbers c.zero_interval-sum.ensures.counted
 
-pub weighted-requires-clause-room : goal.weighted-requires-clause-room
-weighted-requires-clause-room c =
+pub times_weight-requires-clause-room : goal.times_weight-requires-clause-room
+times_weight-requires-clause-room c =
     let points = c.args.points.now in
     let binding = c.args.binding.now in
     let terms = binding.terms in
@@ -27,7 +27,7 @@ plus-sum-requires-clause-room c =
     let term = c.term-item.result in
     let next = subst (λ ts. drop i ts ≡ term ∷ drop (i + 1) ts) c.as_slice-term-items.ensures (next_term c.as_slice-term-items.result.now i term c.loop-term-test.true c.term-item.is) in
     let so_far = subst (λ rest. Summed points binding rest c.loop-term.sum) next c.loop-term.invariant in
-    room_for c.scales.ensures.some c.scales.ensures.grow points binding c.requires.narrow term (drop (i + 1) terms) c.loop-term.sum c.interval_at-interval.result (so_far.counts c.scales.ensures.some c.scales.ensures.grow c.requires.narrow) c.interval_at-interval.ensures.is c.weighted.result c.weighted.ensures.counted
+    room_for c.scales.ensures.some c.scales.ensures.grow points binding c.requires.narrow term (drop (i + 1) terms) c.loop-term.sum c.interval_at-interval.result (so_far.counts c.scales.ensures.some c.scales.ensures.grow c.requires.narrow) c.interval_at-interval.ensures.is c.times_weight.result c.times_weight.ensures.counted
 
 pub loop-term-preserved : goal.loop-term-preserved
 loop-term-preserved c =
@@ -38,8 +38,8 @@ loop-term-preserved c =
     let term = c.term-item.result in
     let next = subst (λ ts. drop i ts ≡ term ∷ drop (i + 1) ts) c.as_slice-term-items.ensures (next_term c.as_slice-term-items.result.now i term c.loop-term-test.true c.term-item.is) in
     let so_far = subst (λ rest. Summed points binding rest c.loop-term.sum) next c.loop-term.invariant in
-    summed_more points binding term (drop (i + 1) terms) c.loop-term.sum c.interval_at-interval.result c.weighted.result c.plus-sum.result so_far c.interval_at-interval.ensures.is
-    c.weighted.ensures.numbers c.weighted.ensures.counted c.plus-sum.ensures.numbers c.plus-sum.ensures.counted c.plus-sum.ensures.some
+    summed_more points binding term (drop (i + 1) terms) c.loop-term.sum c.interval_at-interval.result c.times_weight.result c.plus-sum.result so_far c.interval_at-interval.ensures.is
+    c.times_weight.ensures.numbers c.times_weight.ensures.counted c.plus-sum.ensures.numbers c.plus-sum.ensures.counted c.plus-sum.ensures.some
 
 pub returns : goal.returns
 returns c =

@@ -6,7 +6,7 @@ use Rattle.xc_interval.specs.Scales.{greatest}
 use Rattle.xc_verdict.specs.Widths.{terms_size}
 use Rattle.xc_verdict.proofs.width.width.Goals as goal
 
-sums_cut : (a b c : ℕ) → saturated (saturated (saturated a + saturated b) + saturated c) ≡ saturated (a + b + c)
+sums_cut : (a b c : ℕ) → saturated (saturated (saturated a + saturated b) + saturated c) ≡ saturated (a + (b + c))
 sums_cut a b c = omega arith
 
 pub returns : goal.returns

@@ -1,4 +1,4 @@
 use Rattle.xc_verify.proofs.sums.minus_product.Goals as goal
 
 pub returns-in-Ok : goal.returns-in-Ok
-returns-in-Ok c = rw c.in-Ok.is (c.multiplied.result, c.multiplied.ensures, c.taken_if.ensures)
+returns-in-Ok c = rw c.in-Ok.is (c.multiply_fractions.result, c.multiply_fractions.ensures, c.subtract_unless_passed.ensures)

@@ -1,5 +1,0 @@
-use Rattle.xc_points.proofs.Spreading.{AreSpread}
-use Rattle.xc_points.proofs.groups.spread.Given as goal
-
-abbrev pub invariant-loop-fact : goal.invariant-loop-fact
-invariant-loop-fact l = AreSpread l.firsts l.fact l.members.items

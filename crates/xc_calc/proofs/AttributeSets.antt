@@ -1,13 +1,14 @@
 -- Sets of attributes as lists in order: two are one where each attribute of the one is among the other's.
 use Rattle.std.proofs.Common.{◌≡◌, ◌<◌, ◌&&◌, ◌||◌, ◌+◌, ℕ, suc, List, [], ◌∷◌, Bool, true, false, drop, get_or, length, map, add-one, true≢false, refl, sym, ap, ◌∙◌}
 use Rattle.std.proofs.Math.Seq.{drop-cons}
-use Rattle.std.proofs.lemmas.Bool.{and_parts}
+use Rattle.std.proofs.lemmas.Bool.{and_from, and_parts, or_left, or_right}
 use Rattle.std.proofs.lemmas.Cmp.{then_total, lists_total, tied_itself}
 use Rattle.std.proofs.lemmas.Map.Lookups.{btree_set_from_contains, exact_bytes}
 use Rattle.std.proofs.lemmas.Map.Text.{is_eq-slice_cmp}
 use Rattle.std.specs.BTreeSet.{insert_key}
 use Rattle.std.specs.Cmp.{IsTotalOrder}
 use Rattle.std.specs.Cmp.Lexicographic.{slice_cmp, on_texts}
+use Rattle.std.specs.FinMap.{slice_cmp-IsAntisymmetric}
 use Rattle.std.specs.List.{AllByRecursion, list_any}
 use Rattle.std.specs.List.Sorted.{IsStrictlySortedBy}
 use Rattle.std.specs.Ordering.{nat_cmp, is_eq, match_ordering, ordering_reverse, ordering_then}
@@ -16,14 +17,14 @@ use Rattle.std.specs.declared.cmp.Ordering.{Ordering}
 use Rattle.std.specs.declared.cmp.Ordering.TheVariants.{Less, Equal, Greater}
 use Rattle.xc_calc.specs.Effective.{are_among, are_same, is_same_attribute}
 use Rattle.xc_calc.specs.Steps.Sets.{attribute_of, by_attribute, by_compared, in_order, put_all}
-use Rattle.xc_calc.specs.declared.keyed.Compared.{Compared}
+use Rattle.xc_calc.specs.declared.common.Compared.{Compared}
 use Rattle.xc_elements.specs.declared.nodes.Attribute.{Attribute}
 use Rattle.xc_lists.proofs.Anys.{any_put_in, or_along}
 use Rattle.xc_lists.proofs.Orderings.{is_eq-then}
 
 -- ---- the order
 
-total : IsTotalOrder by_attribute
+pub total : IsTotalOrder by_attribute
 total = then_total (on_texts (λ (a : Attribute). a.space)) (then_total (on_texts (λ (a : Attribute). a.local)) (on_texts (λ (a : Attribute). a.value)))
 
 tied : (o : Ordering) → is_eq o ≡ true → o ≡ Equal
@@ -145,13 +146,40 @@ both false true f g = g refl
 both false false f g = refl
 
 -- two lists with the same attributes have one set
-pub one_set : (these those : List Attribute) → are_same these those ≡ true → in_order these ≡ in_order those
+one_set : (these those : List Attribute) → are_same these those ≡ true → in_order these ≡ in_order those
 one_set these those same =
     let parts = and_parts (are_among these those) (are_among those these) same in
     btree_set_from_contains total (record { keys = in_order these }) (record { keys = in_order those })
     (sorted_all [] these sorted_none) (sorted_all [] those sorted_none)
     (λ q. members [] these q ∙ both (has these q) (has those q) (one_way these those q parts.0) (one_way those these q parts.1) ∙ sym (members [] those q))
     exact
+
+itself : (xs : List Attribute) → is_eq (slice_cmp by_attribute xs xs) ≡ true
+itself xs = ap is_eq (tied_itself (lists_total total) xs)
+
+among_from : (these those : List Attribute) → ((q : Attribute) → has these q ≡ true → has those q ≡ true) → are_among these those ≡ true
+among_from [] those h = refl
+among_from (a ∷ these) those h =
+    let here : is_eq (by_attribute a a) ≡ true = ap is_eq (tied_itself total a) in
+    and_from (list_any (is_same_attribute a) those) (are_among these those)
+    (sym (ap (λ p. list_any p those) (λ i b. same_is a b i)) ∙ h a (or_left (is_eq (by_attribute a a)) (has these a) here))
+    (among_from these those (λ q there. h q (or_right (is_eq (by_attribute q a)) (has these q) there)))
+
+-- two lists with one set have the same attributes
+same_from_set : (these those : List Attribute) → in_order these ≡ in_order those → are_same these those ≡ true
+same_from_set these those one =
+    let agree : (q : Attribute) → has these q ≡ has those q = λ q. sym (members [] these q) ∙ ap (λ set. has set q) one ∙ members [] those q in
+    and_from (are_among these those) (are_among those these)
+    (among_from these those (λ q there. sym (agree q) ∙ there))
+    (among_from those these (λ q there. agree q ∙ there))
+
+-- sets are equal in the order exactly where lists have the same attributes
+pub same_sets : (these those : List Attribute) → is_eq (slice_cmp by_attribute (in_order these) (in_order those)) ≡ are_same these those
+same_sets these those =
+    let order = slice_cmp by_attribute (in_order these) (in_order those) in
+    both (is_eq order) (are_same these those)
+    (λ e. same_from_set these those (slice_cmp-IsAntisymmetric exact (in_order these) (in_order those) (tied order e)))
+    (λ same. ap (λ set. is_eq (slice_cmp by_attribute (in_order these) set)) (sym (one_set these those same)) ∙ itself (in_order these))
 
 -- ---- how the code compares sets
 
@@ -160,6 +188,3 @@ compared_by [] [] = refl
 compared_by [] (l ∷ ls) = refl
 compared_by (k ∷ ks) [] = refl
 compared_by (k ∷ ks) (l ∷ ls) = ap (ordering_then (by_compared k l)) (compared_by ks ls)
-
-pub itself : (xs : List Attribute) → is_eq (slice_cmp by_attribute xs xs) ≡ true
-itself xs = ap is_eq (tied_itself (lists_total total) xs)

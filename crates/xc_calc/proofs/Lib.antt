@@ -1,8 +1,10 @@
 mod AttributeSets
 pub mod Drawing
 pub mod Filtered
+pub mod GroupAnswers
+pub mod GroupSteps
+pub mod Grouping
 pub mod Integers
 pub mod Labelling
 pub mod OneAnswer
-pub mod Rivals
 pub mod Roles

@@ -5,15 +5,16 @@
 mod arc;
 mod arcs;
 mod attributes;
+mod common;
 mod drawn;
 mod effective;
 mod elements;
 mod ends;
 mod fault;
 mod groups;
-mod keyed;
 pub mod laws;
 mod linked;
+mod lists_by_key;
 mod locators;
 mod networks;
 mod shared;

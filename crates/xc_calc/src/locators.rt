@@ -5,7 +5,7 @@ ghost use Rattle.xc_calc.specs.Steps.Labels.{labelled_at, labelled_view, AreLabe
 ghost use Rattle.xc_elements.specs.declared.nodes.Node.{Node};
 
 use crate::elements::{is_linked_locator, xlink_at};
-use crate::groups::{list_of, put_last};
+use crate::lists_by_key::{list_of, put_last};
 use std::alloc::Global;
 use std::collections::BTreeMap;
 use xc_elements::Tree;

@@ -8,7 +8,7 @@ ghost use Rattle.xc_calc.specs.Steps.{by_bytes, list_of, AreByRole};
 ghost use Rattle.xc_calc.specs.declared.arc.ListedArc.{ListedArc};
 
 use crate::arc::{Arc, ListedArc, Network};
-use crate::groups::{list_of, put_last};
+use crate::lists_by_key::{list_of, put_last};
 use std::alloc::Global;
 use std::collections::{BTreeMap, BTreeSet};
 use xc_lists::{Items, Memory, Text};

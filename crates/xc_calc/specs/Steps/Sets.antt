@@ -4,7 +4,7 @@ use Rattle.std.specs.BTreeSet.{insert_key}
 use Rattle.std.specs.Cmp.Lexicographic.{slice_cmp}
 use Rattle.std.specs.Ordering.{nat_cmp, ordering_then}
 use Rattle.std.specs.declared.cmp.Ordering.{Ordering}
-use Rattle.xc_calc.specs.declared.keyed.Compared.{Compared}
+use Rattle.xc_calc.specs.declared.common.Compared.{Compared}
 use Rattle.xc_elements.specs.declared.nodes.Attribute.{Attribute}
 
 -- an attribute as it is lent

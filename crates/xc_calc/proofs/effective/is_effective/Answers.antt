@@ -1,12 +1,19 @@
-use Rattle.std.proofs.Common.{map, ap, ◌∙◌}
-use Rattle.xc_calc.proofs.Rivals.{effective_of_key}
-use Rattle.xc_calc.specs.Steps.{is_effective_among}
+use Rattle.std.proofs.Common.{sym, ap, subst, ◌∙◌}
+use Rattle.std.specs.Option.{option_copied}
+use Rattle.xc_calc.proofs.GroupAnswers.{effective_by_group, has_group}
+use Rattle.xc_calc.specs.Steps.Common.{has_common}
+use Rattle.xc_calc.specs.Steps.Groups.{IsGroupOf}
 use Rattle.xc_calc.proofs.effective.is_effective.Goals as goal
 
-pub returns : goal.returns
-returns c = λ arcs at own before.
-    c.is_effective_among.ensures
-    ∙ ap (is_effective_among c.list_of.result.now c.list_of-2.result.now) c.arc.ensures
-    ∙ effective_of_key arcs at c.args.a.now c.common_of-key.result c.list_of.result.now c.list_of-2.result.now c.common_of-key.ensures
-    (ap (map (λ b. b.now)) c.list_of.ensures ∙ own c.common_of-key.result)
-    (ap (map (λ b. b.now)) c.list_of-2.ensures ∙ before c.common_of-key.result)
+pub returns-in-Some : goal.returns-in-Some
+returns-in-Some c = λ arcs are own.
+    let key = c.common_of.result in
+    c.is_effective_by.ensures
+    ∙ effective_by_group arcs c.args.at c.args.keyed.now key c.common_of.ensures own c.in-Some.group.now
+    (subst (IsGroupOf (has_common key) arcs) (sym c.get.ensures.value ∙ ap option_copied c.in-Some.is) (are key))
+
+pub returns-in-None : goal.returns-in-None
+returns-in-None c = λ arcs are own.
+    let key = c.common_of.result in
+    absurd (has_group arcs c.args.at c.args.keyed.now key c.common_of.ensures own
+    (subst (IsGroupOf (has_common key) arcs) (sym c.get.ensures.value ∙ ap option_copied c.in-None.is) (are key)))

@@ -2,7 +2,7 @@ use Rattle.std.proofs.Common.{map, drop, ◌+◌, ap, sym, ◌∙◌}
 use Rattle.std.specs.BTreeSet.{insert_key}
 use Rattle.xc_calc.proofs.AttributeSets.{map_put, put_step}
 use Rattle.xc_calc.specs.Steps.Sets.{attribute_of, by_attribute, put_all}
-use Rattle.xc_calc.proofs.keyed.gathered.Goals as goal
+use Rattle.xc_calc.proofs.common.gathered.Goals as goal
 
 pub loop-attribute-preserved : goal.loop-attribute-preserved
 loop-attribute-preserved c =

@@ -1,5 +1,5 @@
 use Rattle.std.proofs.Common.{◌≡◌, ◌++◌, drop}
-use Rattle.xc_calc.proofs.keyed.keyed_arcs.Given as goal
+use Rattle.xc_calc.proofs.common.keyed_arcs.Given as goal
 
 -- the arcs so far and those that are left are all
 abbrev pub invariant-loop-arc : goal.invariant-loop-arc

@@ -46,5 +46,5 @@ fn total_concepts(alloc: Global, arcs: &[Arc]) -> Result<Vec<NameId>, Memory>
     for arc in arcs {
         concepts.insert(arc.from)?;
     }
-    concepts.listed(alloc)
+    concepts.ids(alloc)
 }

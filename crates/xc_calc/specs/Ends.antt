@@ -19,12 +19,12 @@ abbrev pub concept_by : List Schema → List ℕ × List ℕ → Option NameId
 concept_by schemas parts = option_map name_id (number_by_id schemas (file_name parts.0) parts.1)
 
 -- the concept that an href names: XBRL 2.1, section 3.5.3.7; its fragment stands behind the first `#`: RFC 3986, section 3.5
-abbrev pub resolved : List Schema → List ℕ → Option NameId
-resolved schemas href = option_and_then (concept_by schemas) (around is_hash href)
+abbrev pub concept_of_href : List Schema → List ℕ → Option NameId
+concept_of_href schemas href = option_and_then (concept_by schemas) (around is_hash href)
 
 -- the concept that a locator names
-abbrev pub located : List Schema → List Node → ℕ → Option NameId
-located schemas nodes at = option_and_then (resolved schemas) (xlink_at nodes at (codes "href"))
+abbrev pub concept_named_at : List Schema → List Node → ℕ → Option NameId
+concept_named_at schemas nodes at = option_and_then (concept_of_href schemas) (xlink_at nodes at (codes "href"))
 
 -- the locators of an extended link with this label, in the order of the document
 abbrev pub locators : List Node → ℕ → List ℕ → List ℕ

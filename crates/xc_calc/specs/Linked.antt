@@ -2,7 +2,7 @@
 use Rattle.std.specs.Prelude.{◌++◌, ℕ, ℤ, List, [], map, flat_map, filter_map, Option, option_map, option_and_then, if◌then◌else◌}
 use Rattle.std.specs.Option.{option_map_or}
 use Rattle.xc_calc.specs.Attributes.{weight_at, order_at, priority_at, use_at, others_at}
-use Rattle.xc_calc.specs.Ends.{located, sources, targets}
+use Rattle.xc_calc.specs.Ends.{concept_named_at, sources, targets}
 use Rattle.xc_calc.specs.Linkbases.{is_chosen, role_at}
 use Rattle.xc_calc.specs.declared.arc.ArcKind.{ArcKind}
 use Rattle.xc_calc.specs.declared.arc.ListedArc.{ListedArc}
@@ -46,8 +46,8 @@ abbrev pub drawn_as : List Node → ℕ → Shortest → Shortest → ℤ → Us
 drawn_as nodes at weight order priority usage = record { role = role_around nodes at; weight = weight; order = order; others = others_at nodes at; priority = priority; usage = usage }
 
 -- what the arc element at this place says, where its attributes are good
-abbrev pub drawn_at : List Node → ℕ → Option Drawn
-drawn_at nodes at =
+abbrev pub arc_element_at : List Node → ℕ → Option Drawn
+arc_element_at nodes at =
     option_and_then (λ weight. option_and_then (λ order. option_and_then (λ priority. option_map (λ usage. drawn_as nodes at weight order priority usage) (use_at nodes at)) (priority_at nodes at)) (order_at nodes at)) (weight_at nodes at)
 
 -- the arc of an arc element between two concepts
@@ -67,11 +67,11 @@ arcs_between drawn from to = flat_map (λ f. map (arc_between drawn f) to) from
 
 -- the concepts that locators name
 abbrev pub concepts_at : List Schema → List Node → List ℕ → List NameId
-concepts_at schemas nodes locators = filter_map (located schemas nodes) locators
+concepts_at schemas nodes locators = filter_map (concept_named_at schemas nodes) locators
 
 -- the arcs of the arc element at this place: one for each source locator and each target locator
 abbrev pub arcs_of_element : List Schema → List Node → ℕ → List ListedArc
-arcs_of_element schemas nodes at = option_map_or (λ drawn. arcs_between drawn (concepts_at schemas nodes (sources nodes at)) (concepts_at schemas nodes (targets nodes at))) (drawn_at nodes at) []
+arcs_of_element schemas nodes at = option_map_or (λ drawn. arcs_between drawn (concepts_at schemas nodes (sources nodes at)) (concepts_at schemas nodes (targets nodes at))) (arc_element_at nodes at) []
 
 -- the arcs of the node at this place, of which only a chosen arc element has any
 abbrev pub arcs_at : ArcKind → List Schema → List Node → ℕ → List ListedArc

@@ -2,7 +2,7 @@
 use Rattle.std.specs.Prelude.{◌++◌, ℕ, List, [], ◌∷◌, Option, Some, None, if◌then◌else◌}
 use Rattle.std.specs.Option.{option_or, option_map_or}
 use Rattle.xc_calc.specs.Attributes.{weight_at, is_zero, order_at, priority_at, use_at}
-use Rattle.xc_calc.specs.Ends.{located, sources, targets}
+use Rattle.xc_calc.specs.Ends.{concept_named_at, sources, targets}
 use Rattle.xc_calc.specs.Linkbases.{is_chosen}
 use Rattle.xc_calc.specs.declared.arc.ArcKind.{ArcKind}
 use Rattle.xc_calc.specs.declared.fault.LinkFault.{LinkFault}
@@ -38,7 +38,7 @@ kind_fault at Unknown = Some (UnknownType at)
 
 -- the first rule that a locator breaks
 abbrev pub locator_fault : List Schema → List Node → ℕ → Option LinkFault
-locator_fault schemas nodes at = option_map_or (λ concept. kind_fault at (kind_of schemas concept.0)) (located schemas nodes at) (Some (Unresolved at))
+locator_fault schemas nodes at = option_map_or (λ concept. kind_fault at (kind_of schemas concept.0)) (concept_named_at schemas nodes at) (Some (Unresolved at))
 
 -- the first rule that an arc element breaks by its attributes
 abbrev pub attribute_fault : List Node → ℕ → Option LinkFault

@@ -96,7 +96,7 @@ impl Arcs {
     {
         Ok(Wanted {
             nodes: Items::of(nodes_of(self.alloc, self.arcs.as_slice())?),
-            typed: Items::of(concepts.typed()?),
+            typed: Items::of(concepts.typed_dimensions()?),
         })
     }
 }

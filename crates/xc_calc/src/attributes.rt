@@ -98,7 +98,7 @@ fn is_exempt(attribute: &Attribute) -> bool
         || (attribute.space.as_str() == "" && is_own_name(attribute.local.as_str()))
 }
 
-fn copied(attribute: &Attribute) -> Result<Attribute, Memory>
+fn copy_of(attribute: &Attribute) -> Result<Attribute, Memory>
     ensures { IfOk result (λ copy. copy ≡ attribute.now) }
 {
     Ok(Attribute {
@@ -115,7 +115,7 @@ fn others(alloc: Global, attributes: &[Attribute]) -> Result<Vec<Attribute>, Mem
     let mut others = Vec::new(alloc);
     for attribute in attributes {
         if !is_exempt(attribute) {
-            others.push(copied(attribute)?)?;
+            others.push(copy_of(attribute)?)?;
         }
     }
     Ok(others)

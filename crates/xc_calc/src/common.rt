@@ -38,7 +38,7 @@ pub(crate) struct Common<'a> {
     pub others: &'a [Compared<'a>],
 }
 
-fn lent(attribute: &Attribute) -> Compared<'_>
+fn compared_of(attribute: &Attribute) -> Compared<'_>
     ensures { attribute_of result ≡ attribute.now }
 {
     Compared {
@@ -49,7 +49,7 @@ fn lent(attribute: &Attribute) -> Compared<'_>
 }
 
 // The attributes, each once.
-fn gathered<'a>(
+fn set_of_attributes<'a>(
     alloc: Global,
     attributes: &'a [Attribute],
 ) -> Result<BTreeSet<Compared<'a>>, Memory>
@@ -57,13 +57,13 @@ fn gathered<'a>(
 {
     let mut set = BTreeSet::new(alloc);
     for attribute in attributes {
-        set.insert(lent(attribute))?;
+        set.insert(compared_of(attribute))?;
     }
     Ok(set)
 }
 
 // The same as a list.
-fn listed<'a>(alloc: Global, set: &BTreeSet<Compared<'a>>) -> Result<Vec<Compared<'a>>, Memory>
+fn list_of_set<'a>(alloc: Global, set: &BTreeSet<Compared<'a>>) -> Result<Vec<Compared<'a>>, Memory>
     ensures { IfOk result (λ list. list.items ≡ set.now.keys) }
 {
     let mut list = Vec::new(alloc);
@@ -106,8 +106,8 @@ impl<'a> KeyedArc<'a> {
     pub(crate) fn of(alloc: Global, arc: &'a ListedArc) -> Result<KeyedArc<'a>, Memory>
         ensures { IfOk result (λ keyed. keyed ≡ arc.now) }
     {
-        let set = gathered(alloc, arc.others())?;
-        let others = Items::of(listed(alloc, &set)?);
+        let set = set_of_attributes(alloc, arc.others())?;
+        let others = Items::of(list_of_set(alloc, &set)?);
         Ok(KeyedArc { arc, others })
     }
 

@@ -1,7 +1,7 @@
 // What arc elements say of their arcs, and the rules that they break.
 ghost use Rattle.std.specs.Prelude.{◌≡◌, ◌<◌, ◌⊎◌, Some, None, length, IfOk, IfErr, OnOk};
 ghost use Rattle.xc_calc.specs.Attributes.{is_zero};
-ghost use Rattle.xc_calc.specs.Linked.{role_around, drawn_at};
+ghost use Rattle.xc_calc.specs.Linked.{role_around, arc_element_at};
 ghost use Rattle.xc_calc.specs.Rules.{attribute_fault};
 ghost use Rattle.xc_calc.specs.Steps.{drawn_view};
 
@@ -45,9 +45,9 @@ fn role_around(alloc: Global, tree: &Tree, at: u32) -> Result<Text, Memory>
 }
 
 /// What the arc element at this place says of its arcs, or the first rule that its attributes break.
-pub(crate) fn drawn_at(alloc: Global, tree: &Tree, at: u32) -> Result<Drawn, LinkFault>
+pub(crate) fn arc_element_at(alloc: Global, tree: &Tree, at: u32) -> Result<Drawn, LinkFault>
     requires { at < length tree.now }
-    ensures drawn { IfOk result (λ drawn. drawn_at tree.now at ≡ Some (drawn_view drawn)) }
+    ensures drawn { IfOk result (λ drawn. arc_element_at tree.now at ≡ Some (drawn_view drawn)) }
     ensures sound { OnOk result (attribute_fault tree.now at ≡ None) }
     ensures fault { IfErr result (λ e. (e ≡ LinkFault.Memory) ⊎ (attribute_fault tree.now at ≡ Some e)) }
 {

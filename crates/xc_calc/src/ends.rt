@@ -1,6 +1,6 @@
 // The locators at the ends of an arc element, and the concepts that they name.
 ghost use Rattle.std.specs.Prelude.{◌≡◌, ◌<◌, length};
-ghost use Rattle.xc_calc.specs.Ends.{resolved, located, end_at};
+ghost use Rattle.xc_calc.specs.Ends.{concept_of_href, concept_named_at, end_at};
 ghost use Rattle.xc_calc.specs.Steps.Labels.{AreLocators};
 
 use crate::elements::xlink_at;
@@ -11,8 +11,8 @@ use xc_elements::Tree;
 use xc_names::NameId;
 
 // The concept that an href names.
-fn resolved(concepts: &Concepts, href: &str) -> Option<NameId>
-    ensures { result ≡ resolved concepts.now href.now }
+fn concept_of_href(concepts: &Concepts, href: &str) -> Option<NameId>
+    ensures { result ≡ concept_of_href concepts.now href.now }
 {
     let Some((path, id)) = around(href, '#') else {
         return None;
@@ -21,12 +21,12 @@ fn resolved(concepts: &Concepts, href: &str) -> Option<NameId>
 }
 
 /// The concept that a locator names.
-pub(crate) fn located(tree: &Tree, concepts: &Concepts, at: u32) -> Option<NameId>
+pub(crate) fn concept_named_at(tree: &Tree, concepts: &Concepts, at: u32) -> Option<NameId>
     requires { at < length tree.now }
-    ensures { result ≡ located concepts.now tree.now at }
+    ensures { result ≡ concept_named_at concepts.now tree.now at }
 {
     match xlink_at(tree, at, "href") {
-        Some(href) => resolved(concepts, href),
+        Some(href) => concept_of_href(concepts, href),
         None => None,
     }
 }
@@ -46,7 +46,7 @@ pub(crate) fn end_at<'a, 'b>(
         return &[];
     };
     match xlink_at(tree, at, local) {
-        Some(label) => found.labelled(link, label),
+        Some(label) => found.locators_with_label(link, label),
         None => &[],
     }
 }

@@ -1,6 +1,6 @@
 // The arcs of a linkbase document, in reading order, and the first rule that it breaks.
 ghost use Rattle.std.specs.Prelude.{◌≡◌, ◌<◌, ◌++◌, ◌⊎◌, Some, None, length, map, All, IfOk, IfErr, OnOk};
-ghost use Rattle.xc_calc.specs.Ends.{located, sources, targets};
+ghost use Rattle.xc_calc.specs.Ends.{concept_named_at, sources, targets};
 ghost use Rattle.xc_calc.specs.Steps.Labels.{AreLocators};
 ghost use Rattle.xc_calc.specs.Linked.{arc_between, arcs_between, concepts_at, arcs_of_element, arcs_at, arcs_in};
 ghost use Rattle.xc_calc.specs.Rules.{kind_fault, locator_fault, ends_fault, arc_fault, broken_at, first_broken};
@@ -8,9 +8,9 @@ ghost use Rattle.xc_calc.specs.Steps.{drawn_view};
 ghost use Rattle.xc_lists.specs.Places.{first_given};
 
 use crate::arc::{Arc, ArcKind, ListedArc};
-use crate::drawn::{Drawn, drawn_at};
+use crate::drawn::{Drawn, arc_element_at};
 use crate::elements::is_chosen;
-use crate::ends::{end_at, located};
+use crate::ends::{concept_named_at, end_at};
 use crate::fault::LinkFault;
 use crate::locators::Locators;
 use std::alloc::Global;
@@ -33,11 +33,11 @@ fn kind_fault(at: u32, kind: Kind) -> Option<LinkFault>
 // The concept that a locator names, or the first rule that the locator breaks.
 fn concept_at(tree: &Tree, concepts: &Concepts, at: u32) -> Result<NameId, LinkFault>
     requires { at < length tree.now }
-    ensures concept { IfOk result (λ concept. located concepts.now tree.now at ≡ Some concept) }
+    ensures concept { IfOk result (λ concept. concept_named_at concepts.now tree.now at ≡ Some concept) }
     ensures sound { OnOk result (locator_fault concepts.now tree.now at ≡ None) }
     ensures fault { IfErr result (λ e. locator_fault concepts.now tree.now at ≡ Some e) }
 {
-    let Some(concept) = located(tree, concepts, at) else {
+    let Some(concept) = concept_named_at(tree, concepts, at) else {
         return Err(LinkFault::Unresolved(at));
     };
     match kind_fault(at, concepts.kind(concept)) {
@@ -149,7 +149,7 @@ fn add_element<'a>(
     ensures sound { OnOk result (arc_fault concepts.now tree.now at ≡ None) }
     ensures fault { IfErr result (λ e. (e ≡ LinkFault.Memory) ⊎ (arc_fault concepts.now tree.now at ≡ Some e)) }
 {
-    let drawn = drawn_at(alloc, tree, at)?;
+    let drawn = arc_element_at(alloc, tree, at)?;
     let (sources, targets) = ends_at(found, tree, at)?;
     let from = concepts_at(alloc, tree, concepts, sources)?;
     let to = concepts_at(alloc, tree, concepts, targets)?;

@@ -37,7 +37,7 @@ impl<'a> Locators<'a> {
     }
 
     /// The locators of an extended link with this label, in the order of the document.
-    pub(crate) fn labelled(&self, link: u32, label: &'a str) -> &[u32]
+    pub(crate) fn locators_with_label(&self, link: u32, label: &'a str) -> &[u32]
         ensures { (nodes : List Node) → AreLocators self.now nodes → result.now ≡ locators nodes link label.now }
     {
         list_of(&self.lists, &Labelled { link, label })

@@ -32,5 +32,5 @@ fn numbers_of(alloc: Global, arcs: &[ListedArc]) -> Result<NameSet, Memory>
 pub(crate) fn nodes_of(alloc: Global, arcs: &[ListedArc]) -> Result<Vec<NameId>, Memory>
     ensures { IfOk result (λ ids. AreNodes arcs.now (map (λ id. id.0) ids.items)) }
 {
-    numbers_of(alloc, arcs)?.listed(alloc)
+    numbers_of(alloc, arcs)?.ids(alloc)
 }

@@ -181,10 +181,10 @@ impl Concepts {
     }
 
     /// The numbers of the typed dimensions, each once and ascending.
-    pub fn typed(&self) -> Result<Vec<NameId>, Memory>
+    pub fn typed_dimensions(&self) -> Result<Vec<NameId>, Memory>
         ensures { IfOk result (λ ids. AreTyped self.now (map (λ id. id.0) ids.items)) }
     {
-        typed_numbers(self.alloc, self.schemas.as_slice())?.listed(self.alloc)
+        typed_numbers(self.alloc, self.schemas.as_slice())?.ids(self.alloc)
     }
 }
 

@@ -65,13 +65,13 @@ fn push_verdicts(out: &mut String, verdicts: &[Verdict]) -> Result<(), AllocErro
 fn push_judged(out: &mut String, verdicts: &[Verdict]) -> Result<(), AllocError>
     ensures { OnOk result (string_bytes out.new ≡ string_bytes out.old ++ judged_part verdicts.now) }
 {
-    let consistent = consistent(verdicts);
+    let consistent = consistent_count(verdicts);
     push_pair(
         out,
         "consistent ",
         consistent,
         " inconsistent ",
-        inconsistent(verdicts),
+        inconsistent_count(verdicts),
     )
 }
 
@@ -79,13 +79,13 @@ fn push_judged(out: &mut String, verdicts: &[Verdict]) -> Result<(), AllocError>
 fn push_unsettled(out: &mut String, verdicts: &[Verdict]) -> Result<(), AllocError>
     ensures { OnOk result (string_bytes out.new ≡ string_bytes out.old ++ unsettled_part verdicts.now) }
 {
-    let unjudged = unjudged(verdicts);
+    let unjudged = unjudged_count(verdicts);
     push_pair(
         out,
         " unjudged ",
         unjudged,
         " too-wide ",
-        too_wide(verdicts),
+        too_wide_count(verdicts),
     )
 }
 
@@ -105,7 +105,7 @@ fn push_pair(
     push_number(out, second)
 }
 
-fn consistent(verdicts: &[Verdict]) -> usize
+fn consistent_count(verdicts: &[Verdict]) -> usize
     ensures { result ≡ count_by is_consistent verdicts.now }
 {
     verdicts
@@ -123,7 +123,7 @@ fn is_consistent(verdict: Verdict) -> bool
     }
 }
 
-fn inconsistent(verdicts: &[Verdict]) -> usize
+fn inconsistent_count(verdicts: &[Verdict]) -> usize
     ensures { result ≡ count_by is_inconsistent verdicts.now }
 {
     verdicts
@@ -142,7 +142,7 @@ pub fn is_inconsistent(verdict: Verdict) -> bool
     }
 }
 
-fn unjudged(verdicts: &[Verdict]) -> usize
+fn unjudged_count(verdicts: &[Verdict]) -> usize
     ensures { result ≡ count_by is_unjudged verdicts.now }
 {
     verdicts
@@ -160,7 +160,7 @@ fn is_unjudged(verdict: Verdict) -> bool
     }
 }
 
-fn too_wide(verdicts: &[Verdict]) -> usize
+fn too_wide_count(verdicts: &[Verdict]) -> usize
     ensures { result ≡ count_by is_too_wide verdicts.now }
 {
     verdicts

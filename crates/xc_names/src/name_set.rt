@@ -43,8 +43,8 @@ impl NameSet {
         Ok(())
     }
 
-    /// The numbers as those of names, each once and ascending.
-    pub fn listed(&self, alloc: Global) -> Result<Vec<NameId>, Memory>
+    /// The numbers, as those of names, each once and ascending.
+    pub fn ids(&self, alloc: Global) -> Result<Vec<NameId>, Memory>
         ensures same { IfOk result (λ ids. map (λ id. id.0) ids.items ≡ self.now) }
         ensures ascending { IfOk result (λ ids. IsStrictlySortedBy nat_cmp self.now) }
     {

@@ -75,12 +75,12 @@ fn prefixes_name_spaces(rt: HostRuntime) {
 fn numbers_are_listed(rt: HostRuntime) -> Result<(), Fail> {
     let alloc = rt.alloc();
     let mut set = NameSet::new(alloc);
-    assert_eq!(rt; set.listed(alloc)?.as_slice(), [].as_slice());
+    assert_eq!(rt; set.ids(alloc)?.as_slice(), [].as_slice());
     for number in [7, 3, 7, 0, 3] {
         set.insert(NameId(number))?;
     }
     assert_eq!(rt;
-        set.listed(alloc)?.as_slice(),
+        set.ids(alloc)?.as_slice(),
         [NameId(0), NameId(3), NameId(7)].as_slice()
     );
     Ok(())

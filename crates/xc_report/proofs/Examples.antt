@@ -12,7 +12,7 @@ use Rattle.xc_report.specs.Dimensions.{in_order, is_same_key, distinct, key_numb
 use Rattle.xc_report.specs.Opened.{declared_by}
 use Rattle.xc_report.specs.Periods.{normal_period}
 use Rattle.xc_report.specs.Stated.{part, part_of, parts_of}
-use Rattle.xc_report.specs.StatedFacts.{stated, stated_facts}
+use Rattle.xc_report.specs.StatedFacts.{stated_fact, stated_facts}
 use Rattle.xc_report.specs.Units.{unit}
 use Rattle.xc_report.specs.Wanted.{Known}
 use Rattle.xc_report.specs.declared.dimensions.Dimension.{Dimension}
@@ -122,24 +122,24 @@ one_dimension_twice = rw (eg_stands, h_stands) refl
 abbrev fact : Data → List ℕ → Data → Data
 fact given_value name given_part = object (member (codes "dimensions") (object (member (codes "concept") (string (codes "eg:T")) (member name given_part no_members))) (member (codes "value") given_value no_members))
 
-nil_with_a_bad_dimension : stated known (codes "f", fact null (codes "other") null) ≡ Ok None
+nil_with_a_bad_dimension : stated_fact known (codes "f", fact null (codes "other") null) ≡ Ok None
 unfolding chars is_name_start is_name_char
 nil_with_a_bad_dimension = rw eg_stands refl
 
-dimension_before_text : stated known (codes "f", fact (string (codes "ten")) (codes "other") null) ≡ Err (fault.BadName (codes "f"))
+dimension_before_text : stated_fact known (codes "f", fact (string (codes "ten")) (codes "other") null) ≡ Err (fault.BadName (codes "f"))
 unfolding chars is_name_start is_name_char
 dimension_before_text = rw eg_stands refl
 
-type_before_dimension : stated known (codes "f", fact (boolean true) (codes "other") null) ≡ Err (fault.BadValue (codes "f"))
+type_before_dimension : stated_fact known (codes "f", fact (boolean true) (codes "other") null) ≡ Err (fault.BadValue (codes "f"))
 unfolding chars is_name_start is_name_char
 type_before_dimension = rw eg_stands refl
 
-text_of_no_number : stated known (codes "f", fact (string (codes "ten")) (codes "eg:E") null) ≡ Err (fault.BadValue (codes "f"))
+text_of_no_number : stated_fact known (codes "f", fact (string (codes "ten")) (codes "eg:E") null) ≡ Err (fault.BadValue (codes "f"))
 unfolding chars is_name_start is_name_char
 text_of_no_number = rw eg_stands (rw eg_stands refl)
 
 -- nothing is read of a fact whose concept is no node but that concept
-no_node : stated known (codes "f", object (member (codes "dimensions") (object (member (codes "concept") (string (codes "eg:X")) (member (codes "other") null no_members))) no_members)) ≡ Ok None
+no_node : stated_fact known (codes "f", object (member (codes "dimensions") (object (member (codes "concept") (string (codes "eg:X")) (member (codes "other") null no_members))) no_members)) ≡ Ok None
 unfolding chars is_name_start is_name_char
 no_node = rw eg_stands refl
 

@@ -4,7 +4,7 @@ use Rattle.std.specs.List.{position_from}
 use Rattle.std.specs.Ordering.{nat_cmp, is_eq}
 use Rattle.xc_lists.proofs.Orderings.{is_eq-nat_cmp}
 use Rattle.xc_names.specs.declared.expanded.NameId.{NameId}
-use Rattle.xc_report.specs.Wanted.{is_listed, listed}
+use Rattle.xc_report.specs.Wanted.{is_listed, number_if_listed}
 
 placed : (id : NameId) (from : ℕ) (ids : List NameId) → is_some (position_from (λ (other : NameId). is_eq (nat_cmp id.0 other.0)) from ids) ≡ is_listed ids id.0
 placed id from [] = refl
@@ -18,8 +18,8 @@ placed id from (x ∷ xs) = ap (λ b. is_some (cond b (Some from) (position_from
 pub found_listed : (id : NameId) (ids : List NameId) → is_some (position_from (λ (other : NameId). is_eq (nat_cmp id.0 other.0)) 0 ids) ≡ is_listed ids id.0
 found_listed id ids = placed id 0 ids
 
-pub listed_there : (ids : List NameId) (id : NameId) → is_listed ids id.0 ≡ true → Some id ≡ listed ids (Some id.0)
+pub listed_there : (ids : List NameId) (id : NameId) → is_listed ids id.0 ≡ true → Some id ≡ number_if_listed ids (Some id.0)
 listed_there ids id e = rw e refl
 
-pub listed_nowhere : (ids : List NameId) (id : NameId) → is_listed ids id.0 ≡ false → None ≡ listed ids (Some id.0)
+pub listed_nowhere : (ids : List NameId) (id : NameId) → is_listed ids id.0 ≡ false → None ≡ number_if_listed ids (Some id.0)
 listed_nowhere ids id e = rw e refl

@@ -5,7 +5,7 @@ use Rattle.std.proofs.lemmas.Bool.Decides.{nat_tests}
 use Rattle.xc_report.specs.Each.{each_some}
 use Rattle.xc_names.specs.Prefixes.{Bindings}
 use Rattle.xc_names.specs.declared.expanded.Expanded.{Expanded}
-use Rattle.xc_report.specs.Prefixed.{expanded}
+use Rattle.xc_report.specs.Prefixed.{expanded_name}
 use Rattle.xc_chars.specs.Parts.{around}
 use Rattle.xc_report.specs.Units.{is_star, product}
 
@@ -75,20 +75,20 @@ pub each_not : {A B : Type 0} (f : A → Option B) (done : List B) (x : A) (xs :
 each_not f done x xs e = rw e refl
 
 -- the measures of a product whose first piece is none
-pub first_none : (prefixes : Bindings) (done : List Expanded) (left : List ℕ) (parts : List ℕ × List ℕ) → around is_star left ≡ Some parts → expanded prefixes parts.0 ≡ None → option_map (λ rest. done ++ rest) (product prefixes left) ≡ None
-first_none prefixes done left parts cut none = ap (λ pieces. option_map (λ rest. done ++ rest) (each_some (expanded prefixes) pieces)) (pieces_around is_star left parts cut) ∙ each_not (expanded prefixes) done parts.0 (slice_split is_star parts.1) none
+pub first_none : (prefixes : Bindings) (done : List Expanded) (left : List ℕ) (parts : List ℕ × List ℕ) → around is_star left ≡ Some parts → expanded_name prefixes parts.0 ≡ None → option_map (λ rest. done ++ rest) (product prefixes left) ≡ None
+first_none prefixes done left parts cut none = ap (λ pieces. option_map (λ rest. done ++ rest) (each_some (expanded_name prefixes) pieces)) (pieces_around is_star left parts cut) ∙ each_not (expanded_name prefixes) done parts.0 (slice_split is_star parts.1) none
 
 -- and of one whose first piece is a measure
-pub first_some : (prefixes : Bindings) (done : List Expanded) (left : List ℕ) (parts : List ℕ × List ℕ) (name : Expanded) → around is_star left ≡ Some parts → expanded prefixes parts.0 ≡ Some name → option_map (λ rest. done ++ rest) (product prefixes left) ≡ option_map (λ rest. (done ++ name ∷ []) ++ rest) (product prefixes parts.1)
-first_some prefixes done left parts name cut some = ap (λ pieces. option_map (λ rest. done ++ rest) (each_some (expanded prefixes) pieces)) (pieces_around is_star left parts cut) ∙ each_first (expanded prefixes) done parts.0 name (slice_split is_star parts.1) some
+pub first_some : (prefixes : Bindings) (done : List Expanded) (left : List ℕ) (parts : List ℕ × List ℕ) (name : Expanded) → around is_star left ≡ Some parts → expanded_name prefixes parts.0 ≡ Some name → option_map (λ rest. done ++ rest) (product prefixes left) ≡ option_map (λ rest. (done ++ name ∷ []) ++ rest) (product prefixes parts.1)
+first_some prefixes done left parts name cut some = ap (λ pieces. option_map (λ rest. done ++ rest) (each_some (expanded_name prefixes) pieces)) (pieces_around is_star left parts cut) ∙ each_first (expanded_name prefixes) done parts.0 name (slice_split is_star parts.1) some
 
 -- the measures of a last piece that is none
-pub last_none : (prefixes : Bindings) (done : List Expanded) (left : List ℕ) → around is_star left ≡ None → expanded prefixes left ≡ None → option_map (λ rest. done ++ rest) (product prefixes left) ≡ None
-last_none prefixes done left cut none = ap (λ pieces. option_map (λ rest. done ++ rest) (each_some (expanded prefixes) pieces)) (no_pieces is_star left cut) ∙ each_not (expanded prefixes) done left [] none
+pub last_none : (prefixes : Bindings) (done : List Expanded) (left : List ℕ) → around is_star left ≡ None → expanded_name prefixes left ≡ None → option_map (λ rest. done ++ rest) (product prefixes left) ≡ None
+last_none prefixes done left cut none = ap (λ pieces. option_map (λ rest. done ++ rest) (each_some (expanded_name prefixes) pieces)) (no_pieces is_star left cut) ∙ each_not (expanded_name prefixes) done left [] none
 
 -- and of one that is a measure
-pub last_some : (prefixes : Bindings) (done : List Expanded) (left : List ℕ) (name : Expanded) → around is_star left ≡ None → expanded prefixes left ≡ Some name → option_map (λ rest. done ++ rest) (product prefixes left) ≡ Some (done ++ name ∷ [])
-last_some prefixes done left name cut some = ap (λ pieces. option_map (λ rest. done ++ rest) (each_some (expanded prefixes) pieces)) (no_pieces is_star left cut) ∙ rw some refl
+pub last_some : (prefixes : Bindings) (done : List Expanded) (left : List ℕ) (name : Expanded) → around is_star left ≡ None → expanded_name prefixes left ≡ Some name → option_map (λ rest. done ++ rest) (product prefixes left) ≡ Some (done ++ name ∷ [])
+last_some prefixes done left name cut some = ap (λ pieces. option_map (λ rest. done ++ rest) (each_some (expanded_name prefixes) pieces)) (no_pieces is_star left cut) ∙ rw some refl
 
 -- what a list gives, by its first element and the rest
 pub each_cons : {A B : Type 0} (f : A → Option B) (x : A) (y : B) (xs : List A) (ys : List B) → f x ≡ Some y → each_some f xs ≡ Some ys → each_some f (x ∷ xs) ≡ Some (y ∷ ys)

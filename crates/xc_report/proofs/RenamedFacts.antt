@@ -7,9 +7,9 @@ use Rattle.serde_json.specs.Find.{as_object}
 use Rattle.xc_names.specs.declared.expanded.Expanded.{Expanded}
 use Rattle.xc_names.specs.declared.expanded.NameId.{NameId}
 use Rattle.xc_report.specs.Json.{member_list}
-use Rattle.xc_report.specs.Prefixed.{expanded}
-use Rattle.xc_report.specs.Stated.{entity_value, period_value, text_value, taxonomy_value, kept, unit_part, taxonomy_part, part_of, has_twice, parts_of}
-use Rattle.xc_report.specs.StatedFacts.{dimensions_of, concept_of, value_of, fact_parts, value_read, decimals_of, with_decimals, with_reading, with_parts, with_value, with_node, with_concept, stated, fact_in, fault_in, first, faults_of, facts_of, facts_unless, stated_facts}
+use Rattle.xc_report.specs.Prefixed.{expanded_name}
+use Rattle.xc_report.specs.Stated.{entity_value, period_value, text_value, taxonomy_value, part_with, unit_part, taxonomy_part, part_of, has_twice, parts_of}
+use Rattle.xc_report.specs.StatedFacts.{dimensions_of, concept_of, value_of, fact_parts, value_read, decimals_of, with_decimals, with_reading, with_parts, with_value, with_node, with_concept, stated_fact, fact_in, fault_in, first, faults_of, facts_of, facts_unless, stated_facts}
 use Rattle.xc_report.specs.Wanted.{Known, node_of}
 use Rattle.xc_report.specs.declared.reports.Reading.{Reading}
 use Rattle.xc_report.specs.declared.reports.ReportFault.{ReportFault}
@@ -30,19 +30,19 @@ parts_by part members =
 module _ (f : ℕ → ℕ) (one other : Known) (k : IsKnownAs f one other) where
   taxonomy_alike : (d : Data) (o : Option Expanded) → taxonomy_part other d o ≡ taxonomy_part one d o
   taxonomy_alike d None = refl
-  taxonomy_alike d (Some name) = λ i. kept (dimension.Taxonomy name) (taxonomy_value (k.prefixes i) (k.typed name i) d)
+  taxonomy_alike d (Some name) = λ i. part_with (dimension.Taxonomy name) (taxonomy_value (k.prefixes i) (k.typed name i) d)
 
-  dimension_alike : (m : List ℕ × Data) → taxonomy_part other m.1 (expanded other.prefixes m.0) ≡ taxonomy_part one m.1 (expanded one.prefixes m.0)
-  dimension_alike m = taxonomy_alike m.1 (expanded other.prefixes m.0) ∙ ap (λ prefixes. taxonomy_part one m.1 (expanded prefixes m.0)) k.prefixes
+  dimension_alike : (m : List ℕ × Data) → taxonomy_part other m.1 (expanded_name other.prefixes m.0) ≡ taxonomy_part one m.1 (expanded_name one.prefixes m.0)
+  dimension_alike m = taxonomy_alike m.1 (expanded_name other.prefixes m.0) ∙ ap (λ prefixes. taxonomy_part one m.1 (expanded_name prefixes m.0)) k.prefixes
 
   part_alike : (m : List ℕ × Data) → part_of other m ≡ part_of one m
   part_alike m = λ i.
       if bytes_eq m.0 (codes "concept") then Some None
-      else if bytes_eq m.0 (codes "entity") then kept dimension.Entity (entity_value (k.prefixes i) m.1)
-      else if bytes_eq m.0 (codes "period") then kept dimension.Period (period_value m.1)
+      else if bytes_eq m.0 (codes "entity") then part_with dimension.Entity (entity_value (k.prefixes i) m.1)
+      else if bytes_eq m.0 (codes "period") then part_with dimension.Period (period_value m.1)
       else if bytes_eq m.0 (codes "unit") then unit_part (k.prefixes i) m.1
-      else if bytes_eq m.0 (codes "language") then kept dimension.Language (text_value m.1)
-      else if bytes_eq m.0 (codes "noteId") then kept dimension.NoteId (text_value m.1)
+      else if bytes_eq m.0 (codes "language") then part_with dimension.Language (text_value m.1)
+      else if bytes_eq m.0 (codes "noteId") then part_with dimension.NoteId (text_value m.1)
       else dimension_alike m i
 
   parts_alike : (members : Members) → parts_of other members ≡ parts_of one members
@@ -99,15 +99,15 @@ module _ (f : ℕ → ℕ) where
     concept_renamed id fact (Some name) = ap (with_node other id fact) (k.nodes name) ∙ node_renamed id fact (node_of one name)
 
     -- what a member states
-    stated_renamed : (m : List ℕ × Data) → stated other m ≡ renamed_one f (stated one m)
+    stated_renamed : (m : List ℕ × Data) → stated_fact other m ≡ renamed_one f (stated_fact one m)
     stated_renamed m = ap (λ prefixes. with_concept other m.0 m.1 (concept_of prefixes m.1)) k.prefixes ∙ concept_renamed m.0 m.1 (concept_of one.prefixes m.1)
 
     faults_alike : (members : Members) → faults_of other members ≡ faults_of one members
-    faults_alike members = λ i. filter_map (λ m. (ap fault_in (stated_renamed m) ∙ fault_kept (stated one m)) i) (member_list members)
+    faults_alike members = λ i. filter_map (λ m. (ap fault_in (stated_renamed m) ∙ fault_kept (stated_fact one m)) i) (member_list members)
 
     facts_of_renamed : (members : Members) → facts_of other members ≡ map (renamed_stated f) (facts_of one members)
     facts_of_renamed members =
-        filter_map_changed (renamed_stated f) (λ m. fact_in (stated one m)) (λ m. fact_in (stated other m)) (λ m. ap fact_in (stated_renamed m) ∙ fact_changed (stated one m)) (member_list members)
+        filter_map_changed (renamed_stated f) (λ m. fact_in (stated_fact one m)) (λ m. fact_in (stated_fact other m)) (λ m. ap fact_in (stated_renamed m) ∙ fact_changed (stated_fact one m)) (member_list members)
 
 -- what facts state, by other numbers
 pub facts_renamed : (f : ℕ → ℕ) (one other : Known) → IsKnownAs f one other → (members : Members) → stated_facts other members ≡ renamed_read f (stated_facts one members)

@@ -10,11 +10,11 @@ use Rattle.serde_json.specs.Find.{get, as_null, as_str, as_number, as_object}
 use Rattle.xc_names.specs.Prefixes.{Bindings}
 use Rattle.xc_names.specs.declared.expanded.Expanded.{Expanded}
 use Rattle.xc_report.specs.Json.{member_list}
-use Rattle.xc_report.specs.Prefixed.{expanded, expanded_loosely}
+use Rattle.xc_report.specs.Prefixed.{expanded_name, expanded_loosely}
 use Rattle.xc_report.specs.Periods.{normal_period}
 use Rattle.xc_report.specs.Rules.{IsNoCoreName, IsMember, NoMember, TypedMember, ExplicitMember, OtherMember, States, StatesConcept, StatesEntity, StatesPeriod, StatesPure, StatesUnit, StatesLanguage, StatesNote, StatesTaxonomy, AllState, HasDimensions}
 use Rattle.xc_report.specs.Rules.Units.{pure_measure}
-use Rattle.xc_report.specs.Stated.{part, entity_pair, entity_value, period_value, text_value, measures_value, named_value, member_value, taxonomy_value, kept, unit_kept, unit_part, taxonomy_part, part_of, has_twice, are_parts, given, given_parts, parts_of}
+use Rattle.xc_report.specs.Stated.{part, entity_pair, entity_value, period_value, text_value, measures_value, named_value, member_value, taxonomy_value, part_with, unit_kept, unit_part, taxonomy_part, part_of, has_twice, are_parts, given, given_parts, parts_of}
 use Rattle.xc_report.specs.Units.{unit, is_pure_alone}
 use Rattle.xc_report.specs.Wanted.{Known, is_typed}
 use Rattle.xc_report.specs.declared.stated.DimensionName.{DimensionName}
@@ -61,7 +61,7 @@ not_from false e = refl
 
 module _ (known : Known) where
   -- the value of a dimension of a taxonomy
-  text_member : (axis : Expanded) (text : List ℕ) (v : StatedValue) (typed : Bool) → is_typed known axis ≡ typed → (o : Option Expanded) → expanded known.prefixes text ≡ o
+  text_member : (axis : Expanded) (text : List ℕ) (v : StatedValue) (typed : Bool) → is_typed known axis ≡ typed → (o : Option Expanded) → expanded_name known.prefixes text ≡ o
       → (if typed then value.Text text else named_value text o) ≡ v → IsMember known axis (string text) v
   text_member axis text v true t o h e = TypedMember text refl t (sym e)
   text_member axis text v false t None h e = OtherMember text refl t ((name_told known.prefixes text).none.0 h) (sym e)
@@ -71,7 +71,7 @@ module _ (known : Known) where
   member_read axis null v e = NoMember refl (sym (same_Some value.Null v e))
   member_read axis (boolean b) v e = absurd (none-some v e)
   member_read axis (number n) v e = absurd (none-some v e)
-  member_read axis (string text) v e = text_member axis text v (is_typed known axis) refl (expanded known.prefixes text) refl (same_Some (member_value known.prefixes (is_typed known axis) text) v e)
+  member_read axis (string text) v e = text_member axis text v (is_typed known axis) refl (expanded_name known.prefixes text) refl (same_Some (member_value known.prefixes (is_typed known axis) text) v e)
   member_read axis (array ds) v e = absurd (none-some v e)
   member_read axis (object ms) v e = absurd (none-some v e)
 
@@ -104,13 +104,13 @@ module _ (known : Known) where
   differs name word is_other = false_from_ne_true (bytes_eq name word) (λ e. is_other (same name word e))
 
   -- a text under the name of a core dimension
-  kept_text : (name : List ℕ) (d : Data) (p : Option StatedPart) (k : DimensionName) (f : List ℕ → StatedValue) → kept k (option_map f (as_str d)) ≡ Some p
+  kept_text : (name : List ℕ) (d : Data) (p : Option StatedPart) (k : DimensionName) (f : List ℕ → StatedValue) → part_with k (option_map f (as_str d)) ≡ Some p
       → ((text : List ℕ) → d ≡ string text → p ≡ Some (part k (f text)) → States known name d p) → States known name d p
   kept_text name d p k f e states =
       mapped (λ v. Some (part k v)) (option_map f (as_str d)) p e (λ v h is.
       mapped f (as_str d) v h (λ text g value_is. states text (is_text d text g) (sym is ∙ ap (λ w. Some (part k w)) (sym value_is))))
 
-  read_entity : (name : List ℕ) (d : Data) (p : Option StatedPart) → name ≡ codes "entity" → kept dimension.Entity (entity_value known.prefixes d) ≡ Some p → States known name d p
+  read_entity : (name : List ℕ) (d : Data) (p : Option StatedPart) → name ≡ codes "entity" → part_with dimension.Entity (entity_value known.prefixes d) ≡ Some p → States known name d p
   read_entity name d p n e =
       mapped (λ v. Some (part dimension.Entity v)) (entity_value known.prefixes d) p e (λ v h is.
       mapped entity_pair (option_and_then (expanded_loosely known.prefixes) (as_str d)) v h (λ entity g pair_is.
@@ -129,7 +129,7 @@ module _ (known : Known) where
       option_and_then_some (unit known.prefixes) (as_str d) measures h (λ text t u.
       of_unit name text d p measures n (is_text d text t) u (is_pure_alone measures) refl is))
 
-  read_taxonomy : (name : List ℕ) (d : Data) (p : Option StatedPart) → IsNoCoreName name → (o : Option Expanded) → expanded known.prefixes name ≡ o → taxonomy_part known d o ≡ Some p → States known name d p
+  read_taxonomy : (name : List ℕ) (d : Data) (p : Option StatedPart) → IsNoCoreName name → (o : Option Expanded) → expanded_name known.prefixes name ≡ o → taxonomy_part known d o ≡ Some p → States known name d p
   read_taxonomy name d p n None h e = absurd (none-some p e)
   read_taxonomy name d p n (Some axis) h e =
       mapped (λ v. Some (part (dimension.Taxonomy axis) v)) (taxonomy_value known.prefixes (is_typed known axis) d) p e (λ v g is.
@@ -138,38 +138,38 @@ module _ (known : Known) where
   module _ (name : List ℕ) (d : Data) (p : Option StatedPart) where
     not_note : (concept : name ≢ codes "concept") (entity : name ≢ codes "entity") (period : name ≢ codes "period") (unit : name ≢ codes "unit") (language : name ≢ codes "language")
         → (b : Bool) → bytes_eq name (codes "noteId") ≡ b
-        → (if b then kept dimension.NoteId (text_value d) else taxonomy_part known d (expanded known.prefixes name)) ≡ Some p → States known name d p
+        → (if b then part_with dimension.NoteId (text_value d) else taxonomy_part known d (expanded_name known.prefixes name)) ≡ Some p → States known name d p
     not_note concept entity period unit language true h e = kept_text name d p dimension.NoteId (λ text. value.Text text) e (λ text t is. StatesNote text (same name (codes "noteId") h) t is)
     not_note concept entity period unit language false h e =
-        read_taxonomy name d p (record { concept = concept; entity = entity; period = period; unit = unit; language = language; note = apart name (codes "noteId") h }) (expanded known.prefixes name) refl e
+        read_taxonomy name d p (record { concept = concept; entity = entity; period = period; unit = unit; language = language; note = apart name (codes "noteId") h }) (expanded_name known.prefixes name) refl e
 
     not_language : (concept : name ≢ codes "concept") (entity : name ≢ codes "entity") (period : name ≢ codes "period") (unit : name ≢ codes "unit")
         → (b : Bool) → bytes_eq name (codes "language") ≡ b
-        → (if b then kept dimension.Language (text_value d) else (if bytes_eq name (codes "noteId") then kept dimension.NoteId (text_value d) else taxonomy_part known d (expanded known.prefixes name))) ≡ Some p
+        → (if b then part_with dimension.Language (text_value d) else (if bytes_eq name (codes "noteId") then part_with dimension.NoteId (text_value d) else taxonomy_part known d (expanded_name known.prefixes name))) ≡ Some p
         → States known name d p
     not_language concept entity period unit true h e = kept_text name d p dimension.Language (λ text. value.Text text) e (λ text t is. StatesLanguage text (same name (codes "language") h) t is)
     not_language concept entity period unit false h e = not_note concept entity period unit (apart name (codes "language") h) (bytes_eq name (codes "noteId")) refl e
 
     not_unit : (concept : name ≢ codes "concept") (entity : name ≢ codes "entity") (period : name ≢ codes "period") → (b : Bool) → bytes_eq name (codes "unit") ≡ b
-        → (if b then unit_part known.prefixes d else (if bytes_eq name (codes "language") then kept dimension.Language (text_value d) else (if bytes_eq name (codes "noteId") then kept dimension.NoteId (text_value d) else taxonomy_part known d (expanded known.prefixes name)))) ≡ Some p
+        → (if b then unit_part known.prefixes d else (if bytes_eq name (codes "language") then part_with dimension.Language (text_value d) else (if bytes_eq name (codes "noteId") then part_with dimension.NoteId (text_value d) else taxonomy_part known d (expanded_name known.prefixes name)))) ≡ Some p
         → States known name d p
     not_unit concept entity period true h e = read_unit name d p (same name (codes "unit") h) e
     not_unit concept entity period false h e = not_language concept entity period (apart name (codes "unit") h) (bytes_eq name (codes "language")) refl e
 
     not_period : (concept : name ≢ codes "concept") (entity : name ≢ codes "entity") → (b : Bool) → bytes_eq name (codes "period") ≡ b
-        → (if b then kept dimension.Period (period_value d) else (if bytes_eq name (codes "unit") then unit_part known.prefixes d else (if bytes_eq name (codes "language") then kept dimension.Language (text_value d) else (if bytes_eq name (codes "noteId") then kept dimension.NoteId (text_value d) else taxonomy_part known d (expanded known.prefixes name))))) ≡ Some p
+        → (if b then part_with dimension.Period (period_value d) else (if bytes_eq name (codes "unit") then unit_part known.prefixes d else (if bytes_eq name (codes "language") then part_with dimension.Language (text_value d) else (if bytes_eq name (codes "noteId") then part_with dimension.NoteId (text_value d) else taxonomy_part known d (expanded_name known.prefixes name))))) ≡ Some p
         → States known name d p
     not_period concept entity true h e = kept_text name d p dimension.Period (λ text. value.Text (normal_period text)) e (λ text t is. StatesPeriod text (normal_period text) (same name (codes "period") h) t (period_read text) is)
     not_period concept entity false h e = not_unit concept entity (apart name (codes "period") h) (bytes_eq name (codes "unit")) refl e
 
     not_entity : (concept : name ≢ codes "concept") → (b : Bool) → bytes_eq name (codes "entity") ≡ b
-        → (if b then kept dimension.Entity (entity_value known.prefixes d) else (if bytes_eq name (codes "period") then kept dimension.Period (period_value d) else (if bytes_eq name (codes "unit") then unit_part known.prefixes d else (if bytes_eq name (codes "language") then kept dimension.Language (text_value d) else (if bytes_eq name (codes "noteId") then kept dimension.NoteId (text_value d) else taxonomy_part known d (expanded known.prefixes name)))))) ≡ Some p
+        → (if b then part_with dimension.Entity (entity_value known.prefixes d) else (if bytes_eq name (codes "period") then part_with dimension.Period (period_value d) else (if bytes_eq name (codes "unit") then unit_part known.prefixes d else (if bytes_eq name (codes "language") then part_with dimension.Language (text_value d) else (if bytes_eq name (codes "noteId") then part_with dimension.NoteId (text_value d) else taxonomy_part known d (expanded_name known.prefixes name)))))) ≡ Some p
         → States known name d p
     not_entity concept true h e = read_entity name d p (same name (codes "entity") h) e
     not_entity concept false h e = not_period concept (apart name (codes "entity") h) (bytes_eq name (codes "period")) refl e
 
     not_concept : (b : Bool) → bytes_eq name (codes "concept") ≡ b
-        → (if b then Some None else (if bytes_eq name (codes "entity") then kept dimension.Entity (entity_value known.prefixes d) else (if bytes_eq name (codes "period") then kept dimension.Period (period_value d) else (if bytes_eq name (codes "unit") then unit_part known.prefixes d else (if bytes_eq name (codes "language") then kept dimension.Language (text_value d) else (if bytes_eq name (codes "noteId") then kept dimension.NoteId (text_value d) else taxonomy_part known d (expanded known.prefixes name))))))) ≡ Some p
+        → (if b then Some None else (if bytes_eq name (codes "entity") then part_with dimension.Entity (entity_value known.prefixes d) else (if bytes_eq name (codes "period") then part_with dimension.Period (period_value d) else (if bytes_eq name (codes "unit") then unit_part known.prefixes d else (if bytes_eq name (codes "language") then part_with dimension.Language (text_value d) else (if bytes_eq name (codes "noteId") then part_with dimension.NoteId (text_value d) else taxonomy_part known d (expanded_name known.prefixes name))))))) ≡ Some p
         → States known name d p
     not_concept true h e = StatesConcept (same name (codes "concept") h) (sym (same_Some None p e))
     not_concept false h e = not_entity (apart name (codes "concept") h) (bytes_eq name (codes "entity")) refl e
@@ -183,7 +183,7 @@ module _ (known : Known) where
     reads_part (StatesConcept n e) = ap (λ w. part_of known (w, d)) n ∙ ap Some (sym e)
     reads_part (StatesEntity text scheme identifier n t h e) =
         ap (λ w. part_of known (w, d)) n ∙ ap (λ x. part_of known (codes "entity", x)) t
-        ∙ ap (λ o. kept dimension.Entity (option_map entity_pair o)) (reads_entity known.prefixes text scheme identifier h) ∙ ap Some (sym e)
+        ∙ ap (λ o. part_with dimension.Entity (option_map entity_pair o)) (reads_entity known.prefixes text scheme identifier h) ∙ ap Some (sym e)
     reads_part (StatesPeriod text period n t h e) =
         ap (λ w. part_of known (w, d)) n ∙ ap (λ x. part_of known (codes "period", x)) t
         ∙ ap (λ w. Some (Some (part dimension.Period (value.Text w)))) (reads_period text period h) ∙ ap Some (sym e)
@@ -198,7 +198,7 @@ module _ (known : Known) where
     reads_part (StatesTaxonomy axis v n h m e) =
         other _ _ _ (differs name (codes "concept") n.concept) ∙ other _ _ _ (differs name (codes "entity") n.entity) ∙ other _ _ _ (differs name (codes "period") n.period)
         ∙ other _ _ _ (differs name (codes "unit") n.unit) ∙ other _ _ _ (differs name (codes "language") n.language) ∙ other _ _ _ (differs name (codes "noteId") n.note)
-        ∙ ap (taxonomy_part known d) (reads_name known.prefixes name axis h) ∙ ap (kept (dimension.Taxonomy axis)) (reads_member axis d v m) ∙ ap Some (sym e)
+        ∙ ap (taxonomy_part known d) (reads_name known.prefixes name axis h) ∙ ap (part_with (dimension.Taxonomy axis)) (reads_member axis d v m) ∙ ap Some (sym e)
 
   -- ---- all members
 

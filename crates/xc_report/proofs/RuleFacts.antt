@@ -13,10 +13,10 @@ use Rattle.xc_names.specs.Prefixes.{Bindings}
 use Rattle.xc_names.specs.declared.expanded.Expanded.{Expanded}
 use Rattle.xc_names.specs.declared.expanded.NameId.{NameId}
 use Rattle.xc_report.specs.Json.{member_list, text_at}
-use Rattle.xc_report.specs.Prefixed.{expanded}
+use Rattle.xc_report.specs.Prefixed.{expanded_name}
 use Rattle.xc_report.specs.Rules.{HasDimensions, IsAbout, IsOfNode, IsNil, HasText, Says, SaysNumber, SaysWide, HasDecimals, NoDecimals, WholeDecimals, IsLeftOut, OfNoNode, Nil, IsReadable, Breaks, NoConcept, NoValue, NoDimensions, NoNumber, BadDecimals, AllSay, FirstBreaks}
 use Rattle.xc_report.specs.Stated.{parts_of}
-use Rattle.xc_report.specs.StatedFacts.{dimensions_of, concept_text, concept_of, null_or_text, value_of, fact_parts, read_of, value_read, whole_or_none, decimals_of, with_decimals, with_reading, with_parts, with_value, with_node, with_concept, stated, fact_in, fault_in, first, faults_of, facts_of, facts_unless, stated_facts}
+use Rattle.xc_report.specs.StatedFacts.{dimensions_of, concept_text, concept_of, null_or_text, value_of, fact_parts, read_of, value_read, whole_or_none, decimals_of, with_decimals, with_reading, with_parts, with_value, with_node, with_concept, stated_fact, fact_in, fault_in, first, faults_of, facts_of, facts_unless, stated_facts}
 use Rattle.xc_report.specs.Wanted.{Known, node_of}
 use Rattle.xc_report.specs.declared.reports.Reading.{Reading}
 use Rattle.xc_report.specs.declared.reports.Reading.TheVariants as read
@@ -32,15 +32,15 @@ use Rattle.xc_report.proofs.Told.{mapped, missing}
 
 about_read : (p : Bindings) (fact : Data) (name : Expanded) → concept_of p fact ≡ Some name → IsAbout p fact name
 about_read p fact name e =
-    option_and_then_some (expanded p) (concept_text fact) name e (λ text h named.
+    option_and_then_some (expanded_name p) (concept_text fact) name e (λ text h named.
     option_and_then_some (text_at (codes "concept")) (dimensions_of fact) text h (λ d held s.
     option_and_then_some as_str (get (codes "concept") d) text s (λ v got t.
     record { dimensions = d; held = held; text = text; stated = got ∙ ap Some (is_text v text t); named = name_read p text name named })))
 
 reads_about : (p : Bindings) (fact : Data) (name : Expanded) → IsAbout p fact name → concept_of p fact ≡ Some name
 reads_about p fact name a =
-    ap (λ o. option_and_then (expanded p) (option_and_then (text_at (codes "concept")) o)) a.held
-    ∙ ap (λ o. option_and_then (expanded p) (option_and_then as_str o)) a.stated ∙ reads_name p a.text name a.named
+    ap (λ o. option_and_then (expanded_name p) (option_and_then (text_at (codes "concept")) o)) a.held
+    ∙ ap (λ o. option_and_then (expanded_name p) (option_and_then as_str o)) a.stated ∙ reads_name p a.text name a.named
 
 null_is : (d : Data) → null_or_text d ≡ Some None → d ≡ null
 null_is null e = refl
@@ -98,25 +98,25 @@ reads_decimals fact decimals (WholeDecimals n whole h w e) = ap whole_or_none h 
 -- ---- a member
 
 module _ (known : Known) (id : List ℕ) (fact : Data) where
-  node_read : (concept : NameId) → IsOfNode known fact concept → stated known (id, fact) ≡ with_value known id fact concept (value_of fact)
+  node_read : (concept : NameId) → IsOfNode known fact concept → stated_fact known (id, fact) ≡ with_value known id fact concept (value_of fact)
   node_read concept n = ap (with_concept known id fact) (reads_about known.prefixes fact n.name n.about) ∙ ap (with_node known id fact) n.node
 
-  text_stated : (concept : NameId) (text : List ℕ) → IsOfNode known fact concept → HasText fact text → stated known (id, fact) ≡ with_parts id fact concept text (fact_parts known fact)
+  text_stated : (concept : NameId) (text : List ℕ) → IsOfNode known fact concept → HasText fact text → stated_fact known (id, fact) ≡ with_parts id fact concept text (fact_parts known fact)
   text_stated concept text n h = node_read concept n ∙ ap (with_value known id fact concept) (reads_text fact text h)
 
   parts_stated : (concept : NameId) (text : List ℕ) (parts : List StatedPart) → IsOfNode known fact concept → HasText fact text → HasDimensions known fact parts
-      → stated known (id, fact) ≡ with_reading id fact concept parts (value_read text)
+      → stated_fact known (id, fact) ≡ with_reading id fact concept parts (value_read text)
   parts_stated concept text parts n h d = text_stated concept text n h ∙ ap (with_parts id fact concept text) (reads_dimensions known fact parts d)
 
   number_stated : (concept : NameId) (text : List ℕ) (parts : List StatedPart) (r : Reading) → IsOfNode known fact concept → HasText fact text → HasDimensions known fact parts → Says text r
-      → stated known (id, fact) ≡ with_decimals id concept parts r (decimals_of fact)
+      → stated_fact known (id, fact) ≡ with_decimals id concept parts r (decimals_of fact)
   number_stated concept text parts r n h d s = parts_stated concept text parts n h d ∙ ap (with_reading id fact concept parts) (reads_says text r s)
 
-  pub out_stated : IsLeftOut known fact → stated known (id, fact) ≡ Ok None
+  pub out_stated : IsLeftOut known fact → stated_fact known (id, fact) ≡ Ok None
   out_stated (OfNoNode name about none) = ap (with_concept known id fact) (reads_about known.prefixes fact name about) ∙ ap (with_node known id fact) none
   out_stated (Nil concept n nil) = node_read concept n ∙ ap (with_value known id fact concept) (reads_nil fact nil)
 
-  pub fact_stated : (f : StatedFact) → IsReadable known id fact f → stated known (id, fact) ≡ Ok (Some f)
+  pub fact_stated : (f : StatedFact) → IsReadable known id fact f → stated_fact known (id, fact) ≡ Ok (Some f)
   fact_stated f r =
       number_stated f.concept r.text f.parts f.value r.of_node r.has_text r.dimensions r.says
       ∙ ap (with_decimals id f.concept f.parts f.value) (reads_decimals fact f.decimals r.decimals)
@@ -127,7 +127,7 @@ module _ (known : Known) (id : List ℕ) (fact : Data) where
   no_value (Some None) h nil text = absurd (nil (nil_read fact h))
   no_value (Some (Some t)) h nil text = absurd (text t (text_read fact t h))
 
-  pub fault_stated : (f : ReportFault) → Breaks known id fact f → stated known (id, fact) ≡ Err f
+  pub fault_stated : (f : ReportFault) → Breaks known id fact f → stated_fact known (id, fact) ≡ Err f
   fault_stated f (NoConcept never e) = ap (with_concept known id fact) (missing (concept_of known.prefixes fact) (λ name h. never name (about_read known.prefixes fact name h))) ∙ ap Err (sym e)
   fault_stated f (NoValue concept n nil text e) = node_read concept n ∙ ap (with_value known id fact concept) (no_value (value_of fact) refl nil text) ∙ ap Err (sym e)
   fault_stated f (NoDimensions concept text n h never e) =
@@ -180,27 +180,27 @@ module _ (known : Known) (id : List ℕ) (fact : Data) where
 
 module _ (known : Known) where
   all_stated : (ms : List (List ℕ × Data)) (fs : List StatedFact) → AllSay known ms fs
-      → (filter_map (λ m. fault_in (stated known m)) ms ≡ []) × (filter_map (λ m. fact_in (stated known m)) ms ≡ fs)
+      → (filter_map (λ m. fault_in (stated_fact known m)) ms ≡ []) × (filter_map (λ m. fact_in (stated_fact known m)) ms ≡ fs)
   all_stated [] fs e = (refl, sym e)
   all_stated (m ∷ ms) fs (inl (out, all)) =
       let e = out_stated known m.0 m.1 out in
       let rest = all_stated ms fs all in (
-        ap (λ r. cons_option (fault_in r) (filter_map (λ n. fault_in (stated known n)) ms)) e ∙ rest.0,
-        ap (λ r. cons_option (fact_in r) (filter_map (λ n. fact_in (stated known n)) ms)) e ∙ rest.1,
+        ap (λ r. cons_option (fault_in r) (filter_map (λ n. fault_in (stated_fact known n)) ms)) e ∙ rest.0,
+        ap (λ r. cons_option (fact_in r) (filter_map (λ n. fact_in (stated_fact known n)) ms)) e ∙ rest.1,
       )
   all_stated (m ∷ ms) fs (inr (f, others, readable, all, is)) =
       let e = fact_stated known m.0 m.1 f readable in
       let rest = all_stated ms others all in (
-        ap (λ r. cons_option (fault_in r) (filter_map (λ n. fault_in (stated known n)) ms)) e ∙ rest.0,
-        ap (λ r. cons_option (fact_in r) (filter_map (λ n. fact_in (stated known n)) ms)) e ∙ ap (λ xs. f ∷ xs) rest.1 ∙ sym is,
+        ap (λ r. cons_option (fault_in r) (filter_map (λ n. fault_in (stated_fact known n)) ms)) e ∙ rest.0,
+        ap (λ r. cons_option (fact_in r) (filter_map (λ n. fact_in (stated_fact known n)) ms)) e ∙ ap (λ xs. f ∷ xs) rest.1 ∙ sym is,
       )
 
-  first_stated : (ms : List (List ℕ × Data)) (f : ReportFault) → FirstBreaks known ms f → first (filter_map (λ m. fault_in (stated known m)) ms) ≡ Some f
+  first_stated : (ms : List (List ℕ × Data)) (f : ReportFault) → FirstBreaks known ms f → first (filter_map (λ m. fault_in (stated_fact known m)) ms) ≡ Some f
   first_stated [] f never = absurd never
-  first_stated (m ∷ ms) f (inl broken) = ap (λ r. first (cons_option (fault_in r) (filter_map (λ n. fault_in (stated known n)) ms))) (fault_stated known m.0 m.1 f broken)
-  first_stated (m ∷ ms) f (inr (inl out, later)) = ap (λ r. first (cons_option (fault_in r) (filter_map (λ n. fault_in (stated known n)) ms))) (out_stated known m.0 m.1 out) ∙ first_stated ms f later
+  first_stated (m ∷ ms) f (inl broken) = ap (λ r. first (cons_option (fault_in r) (filter_map (λ n. fault_in (stated_fact known n)) ms))) (fault_stated known m.0 m.1 f broken)
+  first_stated (m ∷ ms) f (inr (inl out, later)) = ap (λ r. first (cons_option (fault_in r) (filter_map (λ n. fault_in (stated_fact known n)) ms))) (out_stated known m.0 m.1 out) ∙ first_stated ms f later
   first_stated (m ∷ ms) f (inr (inr (g, readable), later)) =
-      ap (λ r. first (cons_option (fault_in r) (filter_map (λ n. fault_in (stated known n)) ms))) (fact_stated known m.0 m.1 g readable) ∙ first_stated ms f later
+      ap (λ r. first (cons_option (fault_in r) (filter_map (λ n. fault_in (stated_fact known n)) ms))) (fact_stated known m.0 m.1 g readable) ∙ first_stated ms f later
 
   one_of : (ms : List (List ℕ × Data)) → ((fs : List StatedFact) × AllSay known ms fs) ⊎ ((f : ReportFault) × FirstBreaks known ms f)
   one_of [] = inl ([], refl)

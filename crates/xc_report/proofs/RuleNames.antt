@@ -9,7 +9,7 @@ use Rattle.xc_names.specs.Names.{name_of}
 use Rattle.xc_names.specs.Prefixes.{Bindings}
 use Rattle.xc_names.specs.declared.expanded.Expanded.{Expanded}
 use Rattle.xc_report.specs.Laws.{IsTold}
-use Rattle.xc_report.specs.Prefixed.{bound_name, expanded, expanded_loosely}
+use Rattle.xc_report.specs.Prefixed.{bound_name, expanded_name, expanded_loosely}
 use Rattle.xc_report.specs.Rules.Cuts.{colon, IsCut}
 use Rattle.xc_report.specs.Rules.Names.{StandsFor, IsEntity}
 use Rattle.xc_report.proofs.RuleCuts.{cut_read, reads_cut}
@@ -33,19 +33,19 @@ module _ (prefixes : Bindings) (text : List ℕ) where
         declared = g;
       })
 
-  pub name_read : (name : Expanded) → expanded prefixes text ≡ Some name → StandsFor prefixes text name
+  pub name_read : (name : Expanded) → expanded_name prefixes text ≡ Some name → StandsFor prefixes text name
   name_read name e =
       option_and_then_some (bound_name prefixes) (split text) name e (λ parts h b.
       option_and_then_some both_plain (around is_colon text) parts h (λ cut g plain. name_from name parts cut b g plain))
 
-  pub reads_name : (name : Expanded) → StandsFor prefixes text name → expanded prefixes text ≡ Some name
+  pub reads_name : (name : Expanded) → StandsFor prefixes text name → expanded_name prefixes text ≡ Some name
   reads_name name s =
       ap (λ o. option_and_then (bound_name prefixes) (option_and_then both_plain o)) (reads_cut colon text s.prefix name.local s.cut)
       ∙ ap (λ b. option_and_then (bound_name prefixes) (if b then Some (s.prefix, name.local) else None)) (and_from (is_plain_name s.prefix) (is_plain_name name.local) s.prefix_plain s.local_plain)
       ∙ ap (option_map (λ uri. name_of uri name.local)) s.declared
 
-  pub name_told : IsTold (StandsFor prefixes text) (expanded prefixes text)
-  name_told = told (StandsFor prefixes text) (expanded prefixes text) name_read reads_name
+  pub name_told : IsTold (StandsFor prefixes text) (expanded_name prefixes text)
+  name_told = told (StandsFor prefixes text) (expanded_name prefixes text) name_read reads_name
 
   pub entity_read : (name : Expanded) → expanded_loosely prefixes text ≡ Some name → IsEntity prefixes text name.space name.local
   entity_read name e =

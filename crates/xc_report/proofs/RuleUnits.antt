@@ -13,7 +13,7 @@ use Rattle.xc_names.specs.Prefixes.{Bindings}
 use Rattle.xc_names.specs.declared.expanded.Expanded.{Expanded}
 use Rattle.xc_report.specs.Each.{each_some}
 use Rattle.xc_report.specs.Laws.{IsTold}
-use Rattle.xc_report.specs.Prefixed.{expanded}
+use Rattle.xc_report.specs.Prefixed.{expanded_name}
 use Rattle.xc_report.specs.Rules.Cuts.{slash, asterisk, opening, closing, IsCut}
 use Rattle.xc_report.specs.Rules.Names.{StandsFor}
 use Rattle.xc_report.specs.Rules.Units.{EachStandsFor, IsProduct, IsSide, OneMeasure, InParentheses, IsUnit, Product, Quotient, pure_measure, IsPure}
@@ -64,29 +64,29 @@ starts_apart (x ∷ xs) local rest plain e = let first : x ≡ opening = cc in n
 module _ (prefixes : Bindings) where
   -- ---- products
 
-  each_read : (texts : List (List ℕ)) (measures : List Expanded) → each_some (expanded prefixes) texts ≡ Some measures → EachStandsFor prefixes texts measures
+  each_read : (texts : List (List ℕ)) (measures : List Expanded) → each_some (expanded_name prefixes) texts ≡ Some measures → EachStandsFor prefixes texts measures
   each_read [] measures e = subst (EachStandsFor prefixes []) (same_Some [] measures e) tt
   each_read (t ∷ ts) measures e =
-      option_and_then_some (λ (y : Expanded). option_map (λ ys. y ∷ ys) (each_some (expanded prefixes) ts)) (expanded prefixes t) measures e (λ y h more.
-      mapped (λ ys. y ∷ ys) (each_some (expanded prefixes) ts) measures more (λ ys g is.
+      option_and_then_some (λ (y : Expanded). option_map (λ ys. y ∷ ys) (each_some (expanded_name prefixes) ts)) (expanded_name prefixes t) measures e (λ y h more.
+      mapped (λ ys. y ∷ ys) (each_some (expanded_name prefixes) ts) measures more (λ ys g is.
       subst (EachStandsFor prefixes (t ∷ ts)) is (name_read prefixes t y h, each_read ts ys g)))
 
-  reads_each : (texts : List (List ℕ)) (measures : List Expanded) → EachStandsFor prefixes texts measures → each_some (expanded prefixes) texts ≡ Some measures
+  reads_each : (texts : List (List ℕ)) (measures : List Expanded) → EachStandsFor prefixes texts measures → each_some (expanded_name prefixes) texts ≡ Some measures
   reads_each [] [] all = refl
   reads_each [] (m ∷ ms) all = absurd all
   reads_each (t ∷ ts) [] all = absurd all
-  reads_each (t ∷ ts) (m ∷ ms) all = each_cons (expanded prefixes) t m ts ms (reads_name prefixes t m all.0) (reads_each ts ms all.1)
+  reads_each (t ∷ ts) (m ∷ ms) all = each_cons (expanded_name prefixes) t m ts ms (reads_name prefixes t m all.0) (reads_each ts ms all.1)
 
   product_read : (text : List ℕ) (measures : List Expanded) → product prefixes text ≡ Some measures → IsProduct prefixes text measures
   product_read text measures e = record { texts = slice_split is_star text; joined = pieces_joined asterisk text; each = each_read (slice_split is_star text) measures e }
 
   reads_product : (text : List ℕ) (measures : List Expanded) → IsProduct prefixes text measures → product prefixes text ≡ Some measures
-  reads_product text measures is = ap (each_some (expanded prefixes)) (reads_pieces asterisk text is.texts is.joined) ∙ reads_each is.texts measures is.each
+  reads_product text measures is = ap (each_some (expanded_name prefixes)) (reads_pieces asterisk text is.texts is.joined) ∙ reads_each is.texts measures is.each
 
   -- ---- sides
 
   side_by : (text : List ℕ) (measures : List Expanded) (o : Option (List ℕ)) → behind_open text ≡ o → side_of prefixes text o ≡ Some measures → IsSide prefixes text measures
-  side_by text measures None h e = mapped (λ (name : Expanded). name ∷ []) (expanded prefixes text) measures e (λ name g is. OneMeasure name (name_read prefixes text name g) (sym is))
+  side_by text measures None h e = mapped (λ (name : Expanded). name ∷ []) (expanded_name prefixes text) measures e (λ name g is. OneMeasure name (name_read prefixes text name g) (sym is))
   side_by text measures (Some rest) h e =
       option_and_then_some (product prefixes) (before_close rest) measures e (λ inside g is.
       let cut = before rest inside g in

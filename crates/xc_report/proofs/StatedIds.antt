@@ -14,7 +14,7 @@ use Rattle.serde_json.specs.declared.value.Value.{Value}
 use Rattle.xc_names.specs.declared.expanded.Expanded.{Expanded}
 use Rattle.xc_names.specs.declared.expanded.NameId.{NameId}
 use Rattle.xc_report.specs.Reports.{StatedIdsAscend}
-use Rattle.xc_report.specs.StatedFacts.{concept_of, value_of, fact_parts, value_read, decimals_of, with_decimals, with_reading, with_parts, with_value, with_node, with_concept, stated, fact_in, facts_of}
+use Rattle.xc_report.specs.StatedFacts.{concept_of, value_of, fact_parts, value_read, decimals_of, with_decimals, with_reading, with_parts, with_value, with_node, with_concept, stated_fact, fact_in, facts_of}
 use Rattle.xc_report.specs.Wanted.{Known, node_of}
 use Rattle.xc_report.specs.declared.reports.Reading.{Reading}
 use Rattle.xc_report.specs.declared.stated.StatedFact.{StatedFact}
@@ -50,7 +50,7 @@ by_concept known id fact None = tt
 by_concept known id fact (Some name) = by_node known id fact (node_of known name)
 
 -- what a member states has the member's name as its id
-id_is : (known : Known) (m : List ℕ × Data) → HasId m.0 (fact_in (stated known m))
+id_is : (known : Known) (m : List ℕ × Data) → HasId m.0 (fact_in (stated_fact known m))
 id_is known m = by_concept known m.0 m.1 (concept_of known.prefixes m.1)
 
 -- an id is below the ids of these facts
@@ -63,7 +63,7 @@ below_next id name (Some fact) rest has less below = (subst (λ n. slice_cmp nat
 
 below_each : (known : Known) (id : List ℕ) (entries : List (String Global × Value)) → AllByRecursion (λ name. slice_cmp nat_cmp id (string_bytes name) ≡ Less) (keys_of entries) → IsBelow id (facts_of known (members_view entries))
 below_each known id [] below = tt
-below_each known id (e ∷ es) below = below_next id (string_bytes e.0) (fact_in (stated known (string_bytes e.0, view e.1))) (facts_of known (members_view es)) (id_is known (string_bytes e.0, view e.1)) below.0 (below_each known id es below.1)
+below_each known id (e ∷ es) below = below_next id (string_bytes e.0) (fact_in (stated_fact known (string_bytes e.0, view e.1))) (facts_of known (members_view es)) (id_is known (string_bytes e.0, view e.1)) below.0 (below_each known id es below.1)
 
 next_ascends : (name : List ℕ) (o : Option StatedFact) (rest : List StatedFact) → HasId name o → IsBelow name rest → StatedIdsAscend rest → StatedIdsAscend (cons_option o rest)
 unfolding IsStrictlySortedBy
@@ -77,4 +77,4 @@ none_ascend = tt
 pub stated_ascend : (known : Known) (entries : List (String Global × Value)) → IsStrictlySortedBy string_cmp (keys_of entries) → StatedIdsAscend (facts_of known (members_view entries))
 unfolding IsStrictlySortedBy
 stated_ascend known [] sorted = none_ascend
-stated_ascend known (e ∷ es) sorted = next_ascends (string_bytes e.0) (fact_in (stated known (string_bytes e.0, view e.1))) (facts_of known (members_view es)) (id_is known (string_bytes e.0, view e.1)) (below_each known (string_bytes e.0) es sorted.0) (stated_ascend known es sorted.1)
+stated_ascend known (e ∷ es) sorted = next_ascends (string_bytes e.0) (fact_in (stated_fact known (string_bytes e.0, view e.1))) (facts_of known (members_view es)) (id_is known (string_bytes e.0, view e.1)) (below_each known (string_bytes e.0) es sorted.0) (stated_ascend known es sorted.1)

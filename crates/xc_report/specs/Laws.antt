@@ -12,7 +12,7 @@ use Rattle.xc_report.specs.Opened.{Opened, opened}
 use Rattle.xc_report.specs.Renamed.{renamed_stated, renamed_fact, renamed_read, IsKnownAs}
 use Rattle.xc_report.specs.Json.{member_list}
 use Rattle.xc_report.specs.Periods.{normal_period}
-use Rattle.xc_report.specs.Prefixed.{expanded, expanded_loosely}
+use Rattle.xc_report.specs.Prefixed.{expanded_name, expanded_loosely}
 use Rattle.xc_report.specs.Rules.{AllSay, FirstBreaks}
 use Rattle.xc_report.specs.Rules.Names.{StandsFor, IsEntity}
 use Rattle.xc_report.specs.Rules.Periods.{IsDate, IsMoment, IsPeriod}
@@ -69,7 +69,7 @@ pub record IsTold {A : Type 0} (Is : A → Type 0) (answer : Option A) : Type 0 
 
 -- the name that is read of a text is the one that it stands for
 abbrev pub NamesAreSaid : Type 0
-NamesAreSaid = (prefixes : Bindings) (text : List ℕ) → IsTold (StandsFor prefixes text) (expanded prefixes text)
+NamesAreSaid = (prefixes : Bindings) (text : List ℕ) → IsTold (StandsFor prefixes text) (expanded_name prefixes text)
 
 -- the entity that is read of a text is the one that it is
 abbrev pub EntitiesAreSaid : Type 0

@@ -12,8 +12,8 @@ abbrev pub bound_name : Bindings → List ℕ × List ℕ → Option Expanded
 bound_name prefixes parts = option_map (λ uri. name_of uri parts.1) (get prefixes parts.0)
 
 -- the expanded name of two plain names joined by a colon, whose prefix is declared
-abbrev pub expanded : Bindings → List ℕ → Option Expanded
-expanded prefixes text = option_and_then (bound_name prefixes) (split text)
+abbrev pub expanded_name : Bindings → List ℕ → Option Expanded
+expanded_name prefixes text = option_and_then (bound_name prefixes) (split text)
 
 -- the same of a text with a declared prefix before its first colon, and anything after it
 abbrev pub expanded_loosely : Bindings → List ℕ → Option Expanded

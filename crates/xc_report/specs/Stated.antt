@@ -9,7 +9,7 @@ use Rattle.xc_names.specs.Prefixes.{Bindings}
 use Rattle.xc_names.specs.declared.expanded.Expanded.{Expanded}
 use Rattle.xc_report.specs.Json.{member_list}
 use Rattle.xc_report.specs.Periods.{normal_period}
-use Rattle.xc_report.specs.Prefixed.{expanded, expanded_loosely}
+use Rattle.xc_report.specs.Prefixed.{expanded_name, expanded_loosely}
 use Rattle.xc_report.specs.Units.{unit, is_pure_alone}
 use Rattle.xc_report.specs.Wanted.{Known, is_typed}
 use Rattle.xc_report.specs.declared.stated.DimensionName.{DimensionName}
@@ -49,15 +49,15 @@ named_value text (Some name) = value.Name name
 
 -- the value of a dimension of a taxonomy that is a text
 abbrev pub member_value : Bindings → Bool → List ℕ → StatedValue
-member_value prefixes typed text = if typed then value.Text text else named_value text (expanded prefixes text)
+member_value prefixes typed text = if typed then value.Text text else named_value text (expanded_name prefixes text)
 
 -- the value of a dimension of a taxonomy: null or a text
 abbrev pub taxonomy_value : Bindings → Bool → Data → Option StatedValue
 taxonomy_value prefixes typed d = if is_some (as_null d) then Some value.Null else option_map (member_value prefixes typed) (as_str d)
 
 -- the part of the key that a dimension gives with its value
-abbrev pub kept : DimensionName → Option StatedValue → Option (Option StatedPart)
-kept dimension value = option_map (λ v. Some (part dimension v)) value
+abbrev pub part_with : DimensionName → Option StatedValue → Option (Option StatedPart)
+part_with dimension value = option_map (λ v. Some (part dimension v)) value
 
 -- the part that a unit gives: none where it is `pure` alone
 abbrev pub unit_kept : List Expanded × List Expanded → Option StatedPart
@@ -70,18 +70,18 @@ unit_part prefixes d = option_map unit_kept (option_and_then (unit prefixes) (as
 -- the part that a dimension of a taxonomy gives, where its name has a declared prefix
 abbrev pub taxonomy_part : Known → Data → Option Expanded → Option (Option StatedPart)
 taxonomy_part known d None = None
-taxonomy_part known d (Some name) = kept (dimension.Taxonomy name) (taxonomy_value known.prefixes (is_typed known name) d)
+taxonomy_part known d (Some name) = part_with (dimension.Taxonomy name) (taxonomy_value known.prefixes (is_typed known name) d)
 
 -- the part of the key that a member of `dimensions` gives, where it is one that a fact may have: none for the concept
 abbrev pub part_of : Known → List ℕ × Data → Option (Option StatedPart)
 part_of known m =
     if bytes_eq m.0 (codes "concept") then Some None
-    else if bytes_eq m.0 (codes "entity") then kept dimension.Entity (entity_value known.prefixes m.1)
-    else if bytes_eq m.0 (codes "period") then kept dimension.Period (period_value m.1)
+    else if bytes_eq m.0 (codes "entity") then part_with dimension.Entity (entity_value known.prefixes m.1)
+    else if bytes_eq m.0 (codes "period") then part_with dimension.Period (period_value m.1)
     else if bytes_eq m.0 (codes "unit") then unit_part known.prefixes m.1
-    else if bytes_eq m.0 (codes "language") then kept dimension.Language (text_value m.1)
-    else if bytes_eq m.0 (codes "noteId") then kept dimension.NoteId (text_value m.1)
-    else taxonomy_part known m.1 (expanded known.prefixes m.0)
+    else if bytes_eq m.0 (codes "language") then part_with dimension.Language (text_value m.1)
+    else if bytes_eq m.0 (codes "noteId") then part_with dimension.NoteId (text_value m.1)
+    else taxonomy_part known m.1 (expanded_name known.prefixes m.0)
 
 -- two dimensions of taxonomies with one expanded name
 abbrev pub is_same_name : DimensionName → DimensionName → Bool

@@ -12,7 +12,7 @@ use Rattle.xc_names.specs.declared.expanded.Expanded.{Expanded}
 use Rattle.xc_names.specs.declared.expanded.NameId.{NameId}
 use Rattle.xc_names.specs.Prefixes.{Bindings}
 use Rattle.xc_report.specs.Json.{member_list, text_at}
-use Rattle.xc_report.specs.Prefixed.{expanded}
+use Rattle.xc_report.specs.Prefixed.{expanded_name}
 use Rattle.xc_report.specs.Stated.{parts_of}
 use Rattle.xc_report.specs.Wanted.{Known, node_of}
 use Rattle.xc_report.specs.declared.reports.Reading.{Reading}
@@ -32,7 +32,7 @@ concept_text fact = option_and_then (text_at (codes "concept")) (dimensions_of f
 
 -- the expanded name of a fact's concept: a prefix that is declared and a local part
 abbrev pub concept_of : Bindings → Data → Option Expanded
-concept_of prefixes fact = option_and_then (expanded prefixes) (concept_text fact)
+concept_of prefixes fact = option_and_then (expanded_name prefixes) (concept_text fact)
 
 -- null or a text
 abbrev pub null_or_text : Data → Option (Option (List ℕ))
@@ -97,8 +97,8 @@ with_concept known id fact None = Err (fault.BadName id)
 with_concept known id fact (Some name) = with_node known id fact (node_of known name)
 
 -- what a member of `facts` states; nothing where it is left out
-abbrev pub stated : Known → List ℕ × Data → Result (Option StatedFact) ReportFault
-stated known m = with_concept known m.0 m.1 (concept_of known.prefixes m.1)
+abbrev pub stated_fact : Known → List ℕ × Data → Result (Option StatedFact) ReportFault
+stated_fact known m = with_concept known m.0 m.1 (concept_of known.prefixes m.1)
 
 -- a fact that is not left out
 abbrev pub fact_in : Result (Option StatedFact) ReportFault → Option StatedFact
@@ -117,11 +117,11 @@ first (fault ∷ faults) = Some fault
 
 -- the faults of members, in the order of their ids as bytes
 abbrev pub faults_of : Known → Members → List ReportFault
-faults_of known members = filter_map (λ m. fault_in (stated known m)) (member_list members)
+faults_of known members = filter_map (λ m. fault_in (stated_fact known m)) (member_list members)
 
 -- the facts of members that are not left out, in the order of their ids as bytes
 abbrev pub facts_of : Known → Members → List StatedFact
-facts_of known members = filter_map (λ m. fact_in (stated known m)) (member_list members)
+facts_of known members = filter_map (λ m. fact_in (stated_fact known m)) (member_list members)
 
 -- the facts, where there is no fault
 abbrev pub facts_unless : List StatedFact → Option ReportFault → Result (List StatedFact) ReportFault

@@ -6,7 +6,7 @@ use Rattle.xc_names.specs.Names.{is_named}
 use Rattle.xc_names.specs.Prefixes.{Bindings}
 use Rattle.xc_names.specs.declared.expanded.Expanded.{Expanded}
 use Rattle.xc_report.specs.Each.{each_some}
-use Rattle.xc_report.specs.Prefixed.{expanded}
+use Rattle.xc_report.specs.Prefixed.{expanded_name}
 
 -- an asterisk
 abbrev pub is_star : ℕ → Bool
@@ -22,7 +22,7 @@ is_close byte = byte == 41
 
 -- a product: measures joined by `*`, each a prefix and a local part
 abbrev pub product : Bindings → List ℕ → Option (List Expanded)
-product prefixes text = each_some (expanded prefixes) (slice_split is_star text)
+product prefixes text = each_some (expanded_name prefixes) (slice_split is_star text)
 
 -- what stands behind the parenthesis that a text begins with
 abbrev pub behind_open : List ℕ → Option (List ℕ)
@@ -34,7 +34,7 @@ before_close text = option_and_then (λ parts. if length parts.1 == 0 then Some 
 
 -- one measure
 abbrev pub single : Bindings → List ℕ → Option (List Expanded)
-single prefixes text = option_map (λ name. name ∷ []) (expanded prefixes text)
+single prefixes text = option_map (λ name. name ∷ []) (expanded_name prefixes text)
 
 -- a side of a quotient, by what stands behind the parenthesis that it begins with
 abbrev pub side_of : Bindings → List ℕ → Option (List ℕ) → Option (List Expanded)

@@ -19,17 +19,17 @@ abbrev pub is_listed : List NameId → ℕ → Bool
 is_listed ids number = list_any (λ id. number == id.0) ids
 
 -- a number, where it is listed
-abbrev pub listed : List NameId → Option ℕ → Option NameId
-listed ids None = None
-listed ids (Some number) = if is_listed ids number then Some (record { 0 = number }) else None
+abbrev pub number_if_listed : List NameId → Option ℕ → Option NameId
+number_if_listed ids None = None
+number_if_listed ids (Some number) = if is_listed ids number then Some (record { 0 = number }) else None
 
 -- the number of a concept that is a node
 abbrev pub node_of : Known → Expanded → Option NameId
-node_of known name = listed known.nodes (number_of name.space name.local known.names)
+node_of known name = number_if_listed known.nodes (number_of name.space name.local known.names)
 
 -- the name is that of a typed dimension
 abbrev pub is_typed : Known → Expanded → Bool
-is_typed known name = is_some (listed known.typed (number_of name.space name.local known.names))
+is_typed known name = is_some (number_if_listed known.typed (number_of name.space name.local known.names))
 
 -- what is known of these prefixes, names and lists
 abbrev pub known_of : Bindings → List Expanded → Wanted → Known

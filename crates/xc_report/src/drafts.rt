@@ -79,12 +79,12 @@ impl Draft {
         ensures kept { KeepsNumbers names.old names.new }
         ensures unchanged { IfErr result (λ e. ¬ (e ≡ ReportFault.Memory) → names.new ≡ names.old) }
     {
-        let facts = self.stated(names, wanted)?;
+        let facts = self.facts_by_name(names, wanted)?;
         Ok(numbered_report(self.alloc, names, facts)?)
     }
 
     // The facts by expanded names.
-    fn stated(&self, names: &Names, wanted: &Wanted) -> Result<Vec<StatedFact>, ReportFault>
+    fn facts_by_name(&self, names: &Names, wanted: &Wanted) -> Result<Vec<StatedFact>, ReportFault>
         ensures ascending { IfOk result (λ facts. StatedIdsAscend facts.items) }
         ensures answer { TellsStated result (stated_facts (known_of (draft_view self.now).prefixes names.now wanted.now) (draft_view self.now).facts) }
     {

@@ -56,12 +56,12 @@ impl Keys {
         ensures keys { result.items ≡ self }
         ensures once { StandOnce result.items }
     {
-        moved(self.keys, self.room)
+        list_of_keys(self.keys, self.room)
     }
 }
 
 // The keys of a set, in a list that has room for them.
-fn moved(keys: IndexSet<Key>, room: Vec<Key>) -> Vec<Key>
+fn list_of_keys(keys: IndexSet<Key>, room: Vec<Key>) -> Vec<Key>
     requires empty { room.items ≡ [] }
     requires room { length keys.keys ≤ vec_capacity room }
     ensures keys { result.items ≡ keys.keys }

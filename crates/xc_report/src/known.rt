@@ -2,7 +2,7 @@
 ghost use Rattle.std.specs.Prelude.{◌≡◌, ℕ, List, length, is_some, option_map, IfOk};
 ghost use Rattle.xc_names.specs.Names.{name_of};
 ghost use Rattle.xc_report.specs.Steps.{known_view};
-ghost use Rattle.xc_report.specs.Wanted.{known_of, listed, node_of, is_typed};
+ghost use Rattle.xc_report.specs.Wanted.{known_of, number_if_listed, node_of, is_typed};
 
 use std::alloc::Global;
 use xc_lists::{Firsts, Memory};
@@ -41,20 +41,20 @@ impl<'a> Known<'a> {
     pub fn node_of(&self, space: &str, local: &str) -> Option<NameId>
         ensures { result ≡ node_of (known_view self.now) (name_of space.now local.now) }
     {
-        listed(&self.nodes, self.names.find(space, local))
+        number_if_listed(&self.nodes, self.names.find(space, local))
     }
 
     /// Whether a dimension is typed.
     pub fn is_typed(&self, space: &str, local: &str) -> bool
         ensures { result ≡ is_typed (known_view self.now) (name_of space.now local.now) }
     {
-        listed(&self.typed, self.names.find(space, local)).is_some()
+        number_if_listed(&self.typed, self.names.find(space, local)).is_some()
     }
 }
 
 // A number, where it is listed.
-fn listed(ids: &Firsts<NameId>, id: Option<NameId>) -> Option<NameId>
-    ensures { result ≡ listed ids.now (option_map (λ id. id.0) id) }
+fn number_if_listed(ids: &Firsts<NameId>, id: Option<NameId>) -> Option<NameId>
+    ensures { result ≡ number_if_listed ids.now (option_map (λ id. id.0) id) }
 {
     match id {
         Some(id) => if ids.first(&id).is_some() {

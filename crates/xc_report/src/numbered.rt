@@ -60,7 +60,7 @@ fn keyed_fact(alloc: Global, names: &mut Names, fact: StatedFact) -> Result<Keye
     ensures kept { KeepsNumbers names.old names.new }
 {
     let parts = numbered_parts(alloc, names, fact.parts.into_vec())?;
-    let key = ordered(alloc, parts)?;
+    let key = key_of_parts(alloc, parts)?;
     Ok(KeyedFact {
         id: fact.id,
         concept: fact.concept,
@@ -163,7 +163,7 @@ fn number(names: &mut Names, name: &Expanded) -> Result<NameId, Memory>
 }
 
 // Dimensions with their values, as a key.
-fn ordered(alloc: Global, parts: Vec<(Dimension, DimValue)>) -> Result<Key, Memory>
+fn key_of_parts(alloc: Global, parts: Vec<(Dimension, DimValue)>) -> Result<Key, Memory>
     ensures { IfOk result (λ key. key ≡ in_order parts.items) }
 {
     let mut map = BTreeMap::new(alloc);
@@ -192,7 +192,7 @@ fn placed_facts(alloc: Global, keyed: Vec<KeyedFact>) -> Result<Report, Memory>
     let mut keys = Keys::new(alloc);
     let mut facts = Vec::new(alloc);
     for fact in keyed {
-        facts.push(placed(&mut keys, fact)?)?;
+        facts.push(place_fact(&mut keys, fact)?)?;
     }
     Ok(Report {
         facts: Items::of(facts),
@@ -200,7 +200,7 @@ fn placed_facts(alloc: Global, keyed: Vec<KeyedFact>) -> Result<Report, Memory>
     })
 }
 
-fn placed(keys: &mut Keys, fact: KeyedFact) -> Result<Fact, Memory>
+fn place_fact(keys: &mut Keys, fact: KeyedFact) -> Result<Fact, Memory>
     ensures fact { IfOk result (λ made. made ≡ numbered_in keys.new fact) }
     ensures keys { OnOk result (keys.new ≡ with_key keys.old fact.key) }
 {

@@ -1,14 +1,14 @@
 // Expanded names of texts with a prefix, lent by the text and by what its prefix stands for.
 ghost use Rattle.std.specs.Prelude.{◌≡◌, option_map};
 ghost use Rattle.xc_names.specs.Names.{lent_name};
-ghost use Rattle.xc_report.specs.Prefixed.{expanded, expanded_loosely, bound_name};
+ghost use Rattle.xc_report.specs.Prefixed.{expanded_name, expanded_loosely, bound_name};
 
 use xc_chars::{around, split};
 use xc_names::Prefixes;
 
 /// The name of two plain names joined by a colon, whose prefix is declared.
-pub fn expanded<'a>(prefixes: &'a Prefixes, text: &'a str) -> Option<(&'a str, &'a str)>
-    ensures { option_map lent_name result ≡ expanded prefixes.now text.now }
+pub fn expanded_name<'a>(prefixes: &'a Prefixes, text: &'a str) -> Option<(&'a str, &'a str)>
+    ensures { option_map lent_name result ≡ expanded_name prefixes.now text.now }
 {
     match split(text) {
         Some((prefix, local)) => bound_name(prefixes, prefix, local),

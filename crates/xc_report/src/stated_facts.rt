@@ -4,11 +4,11 @@ ghost use Rattle.serde_json.specs.View.{view, members_view};
 ghost use Rattle.xc_names.specs.Names.{lent_name};
 ghost use Rattle.xc_report.specs.Steps.{Reads, Tells, TellsFacts, known_view};
 ghost use Rattle.xc_report.specs.Reports.{StatedIdsAscend};
-ghost use Rattle.xc_report.specs.StatedFacts.{concept_text, concept_of, null_or_text, value_of, fact_parts, value_read, read_of, decimals_of, whole_or_none, stated, with_node, with_value, with_parts, with_reading, with_decimals};
+ghost use Rattle.xc_report.specs.StatedFacts.{concept_text, concept_of, null_or_text, value_of, fact_parts, value_read, read_of, decimals_of, whole_or_none, stated_fact, with_node, with_value, with_parts, with_reading, with_decimals};
 ghost use Rattle.xc_report.specs.declared.reports.ReportFault.TheVariants as ReportFault;
 
 use crate::known::Known;
-use crate::prefixed::expanded;
+use crate::prefixed::expanded_name;
 use crate::reports::{Reading, ReportFault};
 use crate::stated::{Refusal, StatedFact, StatedPart};
 use crate::stated_parts::parts_of;
@@ -31,7 +31,7 @@ pub fn stated_facts(
 {
     let mut facts = Vec::new(alloc);
     for (id, fact) in members {
-        if let Some(fact) = stated(alloc, known, id.as_str(), fact)? {
+        if let Some(fact) = stated_fact(alloc, known, id.as_str(), fact)? {
             facts.push(fact)?;
         }
     }
@@ -39,13 +39,13 @@ pub fn stated_facts(
 }
 
 // What a member of `facts` states; nothing where its concept is no node or its value is null.
-fn stated(
+fn stated_fact(
     alloc: Global,
     known: &Known<'_>,
     id: &str,
     fact: &Value,
 ) -> Result<Option<StatedFact>, ReportFault>
-    ensures { Tells result (stated (known_view known.now) (id.now, view fact.now)) }
+    ensures { Tells result (stated_fact (known_view known.now) (id.now, view fact.now)) }
 {
     let Some((space, local)) = concept_of(known.prefixes, fact) else {
         return Err(bad_name(alloc, id));
@@ -121,7 +121,7 @@ fn concept_of<'a>(prefixes: &'a Prefixes, fact: &'a Value) -> Option<(&'a str, &
     ensures { option_map lent_name result ≡ concept_of prefixes.now (view fact.now) }
 {
     match concept_text(fact) {
-        Some(text) => expanded(prefixes, text),
+        Some(text) => expanded_name(prefixes, text),
         None => None,
     }
 }

@@ -1,16 +1,16 @@
 // The dimensions that a fact states, by expanded names.
 ghost use Rattle.std.specs.Prelude.{◌≡◌, IfOk, Option};
 ghost use Rattle.serde_json.specs.View.{view, members_view};
-ghost use Rattle.xc_report.specs.Prefixed.{expanded};
+ghost use Rattle.xc_report.specs.Prefixed.{expanded_name};
 ghost use Rattle.xc_report.specs.Steps.{Reads, GivesParts, known_view};
-ghost use Rattle.xc_report.specs.Stated.{part, entity_value, period_value, text_value, member_value, taxonomy_value, taxonomy_part, unit_part, part_of, parts_of, kept};
+ghost use Rattle.xc_report.specs.Stated.{part, entity_value, period_value, text_value, member_value, taxonomy_value, taxonomy_part, unit_part, part_of, parts_of, part_with};
 ghost use Rattle.xc_report.specs.declared.stated.StatedValue.{StatedValue};
 ghost use Rattle.xc_report.specs.declared.stated.StatedValue.TheVariants as stated;
 
 use crate::doubles::has_twice;
 use crate::known::Known;
 use crate::periods::normal_period;
-use crate::prefixed::{expanded, expanded_loosely};
+use crate::prefixed::{expanded_loosely, expanded_name};
 use crate::stated::{DimensionName, Refusal, StatedPart, StatedValue};
 use crate::units::{is_pure_alone, unit};
 use serde_json::{Map, Value};
@@ -62,28 +62,28 @@ fn part_of(
     if name == "concept" {
         Ok(None)
     } else if name == "entity" {
-        kept(
+        part_with(
             DimensionName::Entity,
             entity_value(alloc, known.prefixes, value),
         )
     } else if name == "period" {
-        kept(DimensionName::Period, period_value(alloc, value))
+        part_with(DimensionName::Period, period_value(alloc, value))
     } else if name == "unit" {
         unit_part(alloc, known.prefixes, value)
     } else if name == "language" {
-        kept(DimensionName::Language, text_value(alloc, value))
+        part_with(DimensionName::Language, text_value(alloc, value))
     } else if name == "noteId" {
-        kept(DimensionName::NoteId, text_value(alloc, value))
+        part_with(DimensionName::NoteId, text_value(alloc, value))
     } else {
         taxonomy_part(alloc, known, name, value)
     }
 }
 
-fn kept(
+fn part_with(
     dimension: DimensionName,
     value: Result<StatedValue, Refusal>,
 ) -> Result<Option<StatedPart>, Refusal>
-    ensures { (answer : Option StatedValue) → Reads value answer → Reads result (kept dimension answer) }
+    ensures { (answer : Option StatedValue) → Reads value answer → Reads result (part_with dimension answer) }
 {
     match value {
         Ok(value) => Ok(Some(StatedPart { dimension, value })),
@@ -163,14 +163,14 @@ fn taxonomy_part(
     name: &str,
     value: &Value,
 ) -> Result<Option<StatedPart>, Refusal>
-    ensures { Reads result (taxonomy_part (known_view known.now) (view value.now) (expanded (known_view known.now).prefixes name.now)) }
+    ensures { Reads result (taxonomy_part (known_view known.now) (view value.now) (expanded_name (known_view known.now).prefixes name.now)) }
 {
-    match expanded(known.prefixes, name) {
+    match expanded_name(known.prefixes, name) {
         Some((space, local)) => {
             let typed = known.is_typed(space, local);
             let value = taxonomy_value(alloc, known.prefixes, typed, value);
             let dimension = DimensionName::Taxonomy(Expanded::of(alloc, space, local)?);
-            kept(dimension, value)
+            part_with(dimension, value)
         }
         None => Err(Refusal::Bad),
     }
@@ -205,7 +205,7 @@ fn member_value(
     if typed {
         return plain_text(alloc, text);
     }
-    match expanded(prefixes, text) {
+    match expanded_name(prefixes, text) {
         Some((space, local)) => Ok(StatedValue::Name(Expanded::of(alloc, space, local)?)),
         None => plain_text(alloc, text),
     }

@@ -1,11 +1,11 @@
 // Units: products of measures, and quotients of two.
 ghost use Rattle.std.specs.Prelude.{◌≡◌, option_map, IfOk};
 ghost use Rattle.xc_names.specs.Names.{name_of};
-ghost use Rattle.xc_report.specs.Prefixed.{expanded};
+ghost use Rattle.xc_report.specs.Prefixed.{expanded_name};
 ghost use Rattle.xc_report.specs.Steps.{Reads};
 ghost use Rattle.xc_report.specs.Units.{product, behind_open, before_close, single, side, unit, is_pure, is_pure_alone};
 
-use crate::prefixed::expanded;
+use crate::prefixed::expanded_name;
 use crate::stated::Refusal;
 use std::alloc::Global;
 use xc_chars::around;
@@ -82,13 +82,13 @@ fn product(alloc: Global, prefixes: &Prefixes, text: &str) -> Result<Items<Expan
     let mut measures = Vec::new(alloc);
     let mut left = text;
     while let Some((first, rest)) = around(left, '*') {
-        match expanded(prefixes, first) {
+        match expanded_name(prefixes, first) {
             Some((space, local)) => measures.push(Expanded::of(alloc, space, local)?)?,
             None => return Err(Refusal::Bad),
         }
         left = rest;
     }
-    match expanded(prefixes, left) {
+    match expanded_name(prefixes, left) {
         Some((space, local)) => measures.push(Expanded::of(alloc, space, local)?)?,
         None => return Err(Refusal::Bad),
     }
@@ -96,9 +96,9 @@ fn product(alloc: Global, prefixes: &Prefixes, text: &str) -> Result<Items<Expan
 }
 
 fn measure(alloc: Global, prefixes: &Prefixes, text: &str) -> Result<Expanded, Refusal>
-    ensures { Reads result (expanded prefixes.now text.now) }
+    ensures { Reads result (expanded_name prefixes.now text.now) }
 {
-    match expanded(prefixes, text) {
+    match expanded_name(prefixes, text) {
         Some((space, local)) => Ok(Expanded::of(alloc, space, local)?),
         None => Err(Refusal::Bad),
     }

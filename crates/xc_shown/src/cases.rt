@@ -28,7 +28,7 @@ fn put(alloc: Global, parts: &mut Vec<Part>, line: &str) -> Result<(), AllocErro
     };
     match words.strip_prefix("use ") {
         Some(name) => {
-            let text = named(alloc, parts.as_slice(), name)?;
+            let text = text_of(alloc, parts.as_slice(), name)?;
             put_text(parts, text.as_str())
         }
         None => begin(alloc, parts, words),
@@ -55,7 +55,7 @@ fn put_text(parts: &mut Vec<Part>, line: &str) -> Result<(), AllocError> {
 }
 
 // The text that has the name.
-fn named(alloc: Global, parts: &[Part], name: &str) -> Result<String, AllocError> {
+fn text_of(alloc: Global, parts: &[Part], name: &str) -> Result<String, AllocError> {
     for part in parts {
         if part.words.as_str().strip_prefix("let ") == Some(name) {
             return part.text.clone();

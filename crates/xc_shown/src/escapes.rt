@@ -16,7 +16,7 @@ pub fn push_escaped(out: &mut String, text: &str) -> Result<(), AllocError> {
 }
 
 /// The bytes of a line of the data.
-pub fn unescaped(alloc: Global, line: &str) -> Result<Vec<u8>, AllocError> {
+pub fn bytes_of_line(alloc: Global, line: &str) -> Result<Vec<u8>, AllocError> {
     let mut bytes = Vec::new(alloc);
     let mut is_escape = false;
     for piece in line.split('\\') {

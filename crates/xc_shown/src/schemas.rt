@@ -122,7 +122,7 @@ fn is_typed(taxonomy: &Taxonomy, number: &str) -> &'static str {
 }
 
 fn push_typed(alloc: Global, out: &mut String, taxonomy: &Taxonomy) -> Result<(), AllocError> {
-    let Ok(ids) = taxonomy.concepts.typed() else {
+    let Ok(ids) = taxonomy.concepts.typed_dimensions() else {
         return Err(AllocError);
     };
     out.push_str("all-typed")?;

@@ -4,7 +4,7 @@
 // would not be seen.
 
 use crate::cases::Part;
-use crate::escapes::{push_escaped, unescaped};
+use crate::escapes::{bytes_of_line, push_escaped};
 use std::alloc::{AllocError, Global};
 use xc_elements::{Node, Tree, TreeFault, read_tree};
 
@@ -23,7 +23,7 @@ fn show_part(alloc: Global, out: &mut String, part: &Part) -> Result<(), AllocEr
     for line in part.text.as_str().lines() {
         out.push_str(line)?;
         out.push('\n')?;
-        let document = unescaped(alloc, line)?;
+        let document = bytes_of_line(alloc, line)?;
         show_document(alloc, out, document.as_slice())?;
     }
     Ok(())

@@ -10,7 +10,7 @@ use Rattle.xc_names.specs.Prefixes.{Bindings}
 use Rattle.xc_names.specs.declared.expanded.Expanded.{Expanded}
 use Rattle.xc_names.specs.declared.expanded.NameId.{NameId}
 use Rattle.xc_names.specs.declared.wanted.Wanted.{Wanted}
-use Rattle.xc_report.specs.Wanted.{known_of, is_listed, listed}
+use Rattle.xc_report.specs.Wanted.{known_of, is_listed, number_if_listed}
 use Rattle.xc_top.proofs.RenamedNames.{IsOneName}
 use Rattle.xc_report.specs.Renamed.{renamed_id, IsKnownAs}
 use Rattle.xc_top.proofs.Renaming.{IsRenaming}
@@ -29,7 +29,7 @@ pub record AreAlike (f : ℕ → ℕ) (one other : List Expanded) (ids others : 
   pub shared : (number : ℕ) → is_listed ids number ≡ true → (b : ℕ) × IsOneName one other number b
   pub shared_back : (number : ℕ) → is_listed others number ≡ true → (a : ℕ) × IsOneName one other a number
 
-not_listed : (ids : List NameId) (number : ℕ) → (is_listed ids number ≡ true → ⊥) → listed ids (Some number) ≡ None
+not_listed : (ids : List NameId) (number : ℕ) → (is_listed ids number ≡ true → ⊥) → number_if_listed ids (Some number) ≡ None
 not_listed ids number no_one = ap (λ t. if t then Some (name_id number) else None) (false_from_ne_true (is_listed ids number) no_one)
 
 is_some_renamed : (f : ℕ → ℕ) (o : Option NameId) → is_some (option_map (renamed_id f) o) ≡ is_some o
@@ -55,17 +55,17 @@ module _ (f : ℕ → ℕ) (one other : List Expanded) (is : IsRenaming one othe
     chosen a true = refl
     chosen a false = refl
 
-    same_id : (a : ℕ) → listed others (Some (f a)) ≡ option_map (renamed_id f) (listed ids (Some a))
+    same_id : (a : ℕ) → number_if_listed others (Some (f a)) ≡ option_map (renamed_id f) (number_if_listed ids (Some a))
     same_id a = ap (λ t. if t then Some (name_id (f a)) else None) (alike.same a) ∙ chosen a (is_listed ids a)
 
-    by_numbers : (space local : List ℕ) (o : Option ℕ) → number_of space local one ≡ o → (p : Option ℕ) → number_of space local other ≡ p → listed others p ≡ option_map (renamed_id f) (listed ids o)
+    by_numbers : (space local : List ℕ) (o : Option ℕ) → number_of space local one ≡ o → (p : Option ℕ) → number_of space local other ≡ p → number_if_listed others p ≡ option_map (renamed_id f) (number_if_listed ids o)
     by_numbers space local None e None g = refl
     by_numbers space local (Some a) e None g = sym (ap (option_map (renamed_id f)) (not_listed ids a (not_shared space local a e g)))
     by_numbers space local None e (Some b) g = not_listed others b (not_shared_back space local b e g)
-    by_numbers space local (Some a) e (Some b) g = ap (λ n. listed others (Some n)) (sym (is.carries space local a b e g)) ∙ same_id a
+    by_numbers space local (Some a) e (Some b) g = ap (λ n. number_if_listed others (Some n)) (sym (is.carries space local a b e g)) ∙ same_id a
 
     -- a name is listed alike
-    pub listed_alike : (space local : List ℕ) → listed others (number_of space local other) ≡ option_map (renamed_id f) (listed ids (number_of space local one))
+    pub listed_alike : (space local : List ℕ) → number_if_listed others (number_of space local other) ≡ option_map (renamed_id f) (number_if_listed ids (number_of space local one))
     listed_alike space local = by_numbers space local (number_of space local one) refl (number_of space local other) refl
 
   -- what is known is the same but for numbers
@@ -73,5 +73,5 @@ module _ (f : ℕ → ℕ) (one other : List Expanded) (is : IsRenaming one othe
   known_alike wanted other_wanted nodes typed prefixes = record {
     prefixes = refl;
     nodes = λ name. listed_alike wanted.nodes other_wanted.nodes nodes name.space name.local;
-    typed = λ name. ap is_some (listed_alike wanted.typed other_wanted.typed typed name.space name.local) ∙ is_some_renamed f (listed wanted.typed (number_of name.space name.local one));
+    typed = λ name. ap is_some (listed_alike wanted.typed other_wanted.typed typed name.space name.local) ∙ is_some_renamed f (number_if_listed wanted.typed (number_of name.space name.local one));
   }

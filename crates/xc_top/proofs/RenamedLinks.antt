@@ -8,9 +8,9 @@ use Rattle.std.specs.List.{list_any, cons_option}
 use Rattle.std.specs.Option.{option_or, option_map_or}
 use Rattle.std.specs.Str.{bytes_eq}
 use Rattle.xc_chars.specs.Parts.{is_hash, around, file_name}
-use Rattle.xc_calc.specs.Ends.{name_id, concept_by, resolved, located, sources, targets}
+use Rattle.xc_calc.specs.Ends.{name_id, concept_by, concept_of_href, concept_named_at, sources, targets}
 use Rattle.xc_calc.specs.Linkbases.{xlink_at, is_chosen}
-use Rattle.xc_calc.specs.Linked.{arc_between, concepts_at, arcs_of_element, arcs_at, arcs_in, drawn_at}
+use Rattle.xc_calc.specs.Linked.{arc_between, concepts_at, arcs_of_element, arcs_at, arcs_in, arc_element_at}
 use Rattle.xc_calc.specs.Rules.{kind_fault, locator_fault, attribute_fault, ends_fault}
 use Rattle.xc_calc.specs.Wanted.{is_end, is_node}
 use Rattle.xc_calc.specs.declared.arc.ArcKind.{ArcKind}
@@ -64,12 +64,12 @@ module _ (f : ℕ → ℕ) where
   by_parts schemas None = refl
   by_parts schemas (Some parts) = ap (option_map name_id) (number_renamed schemas (file_name parts.0) parts.1) ∙ id_changed (number_by_id schemas (file_name parts.0) parts.1)
 
-  by_href : (schemas : List Schema) (o : Option (List ℕ)) → option_and_then (resolved (map (renamed_schema f) schemas)) o ≡ option_map (renamed_id f) (option_and_then (resolved schemas) o)
+  by_href : (schemas : List Schema) (o : Option (List ℕ)) → option_and_then (concept_of_href (map (renamed_schema f) schemas)) o ≡ option_map (renamed_id f) (option_and_then (concept_of_href schemas) o)
   by_href schemas None = refl
   by_href schemas (Some href) = by_parts schemas (around is_hash href)
 
   -- concepts are found by their ids whatever their numbers
-  pub located_renamed : (schemas : List Schema) (nodes : List Node) (at : ℕ) → located (map (renamed_schema f) schemas) nodes at ≡ option_map (renamed_id f) (located schemas nodes at)
+  pub located_renamed : (schemas : List Schema) (nodes : List Node) (at : ℕ) → concept_named_at (map (renamed_schema f) schemas) nodes at ≡ option_map (renamed_id f) (concept_named_at schemas nodes at)
   located_renamed schemas nodes at = by_href schemas (xlink_at nodes at (codes "href"))
 
 -- ---- the rules of linkbases
@@ -105,7 +105,7 @@ module _ (f : ℕ → ℕ) (injective : IsInjective f) where
   fault_changed schemas at (Some concept) = ap (kind_fault at) (kind_renamed schemas concept.0)
 
   locator_renamed : (schemas : List Schema) (nodes : List Node) (at : ℕ) → locator_fault (map (renamed_schema f) schemas) nodes at ≡ locator_fault schemas nodes at
-  locator_renamed schemas nodes at = ap (fault_by (map (renamed_schema f) schemas) at) (located_renamed f schemas nodes at) ∙ fault_changed schemas at (located schemas nodes at)
+  locator_renamed schemas nodes at = ap (fault_by (map (renamed_schema f) schemas) at) (located_renamed f schemas nodes at) ∙ fault_changed schemas at (concept_named_at schemas nodes at)
 
 -- the first rule that a linkbase breaks, by the faults of its locators
 abbrev broken_by : ArcKind → (List Node → ℕ → Option LinkFault) → List Node → Option LinkFault
@@ -139,7 +139,7 @@ module _ (f : ℕ → ℕ) where
 
   module _ (schemas : List Schema) where
     named_renamed : (nodes : List Node) (locators : List ℕ) → concepts_at (map (renamed_schema f) schemas) nodes locators ≡ map (renamed_id f) (concepts_at schemas nodes locators)
-    named_renamed nodes locators = filter_map_changed (renamed_id f) (located schemas nodes) (located (map (renamed_schema f) schemas) nodes) (located_renamed f schemas nodes) locators
+    named_renamed nodes locators = filter_map_changed (renamed_id f) (concept_named_at schemas nodes) (concept_named_at (map (renamed_schema f) schemas) nodes) (located_renamed f schemas nodes) locators
 
     drawn_renamed : {D : Type 0} (draw : D → NameId → NameId → ListedArc) → ((d : D) → IsDrawn (draw d)) → (nodes : List Node) (at : ℕ) (o : Option D)
         → option_map_or (λ d. drawn_between (draw d) (concepts_at (map (renamed_schema f) schemas) nodes (sources nodes at)) (concepts_at (map (renamed_schema f) schemas) nodes (targets nodes at))) o []
@@ -150,7 +150,7 @@ module _ (f : ℕ → ℕ) where
         ∙ between_renamed (draw d) (drawn d) (concepts_at schemas nodes (sources nodes at)) (concepts_at schemas nodes (targets nodes at))
 
     chosen_renamed : (nodes : List Node) (at : ℕ) (b : Bool) → (if b then arcs_of_element (map (renamed_schema f) schemas) nodes at else []) ≡ map (renamed_listed f) (if b then arcs_of_element schemas nodes at else [])
-    chosen_renamed nodes at true = drawn_renamed arc_between (λ d s t. refl) nodes at (drawn_at nodes at)
+    chosen_renamed nodes at true = drawn_renamed arc_between (λ d s t. refl) nodes at (arc_element_at nodes at)
     chosen_renamed nodes at false = refl
 
     part_renamed : (kind : ArcKind) (nodes : List Node) → arcs_in kind (map (renamed_schema f) schemas) nodes ≡ map (renamed_listed f) (arcs_in kind schemas nodes)
@@ -201,12 +201,12 @@ module _ (schemas : List Schema) where
   concept_by_parts None = tt
   concept_by_parts (Some parts) = if_mapped name_id IsNamed (number_by_id schemas (file_name parts.0) parts.1) (found_number (file_name parts.0) parts.1 schemas)
 
-  concept_by_href : (o : Option (List ℕ)) → IfSome (option_and_then (resolved schemas) o) IsNamed
+  concept_by_href : (o : Option (List ℕ)) → IfSome (option_and_then (concept_of_href schemas) o) IsNamed
   concept_by_href None = tt
   concept_by_href (Some href) = concept_by_parts (around is_hash href)
 
   -- what a locator names is a concept
-  pub located_concept : (nodes : List Node) (at : ℕ) → IfSome (located schemas nodes at) IsNamed
+  pub located_concept : (nodes : List Node) (at : ℕ) → IfSome (concept_named_at schemas nodes at) IsNamed
   located_concept nodes at = concept_by_href (xlink_at nodes at (codes "href"))
 
 module _ {X Y : Type 0} (test : Y → Bool) (Q : Type 0) where
@@ -253,8 +253,8 @@ module _ (number : ℕ) where
   module _ (schemas : List Schema) where
     named_concept : (nodes : List Node) (locators : List ℕ) → list_any is_it (concepts_at schemas nodes locators) ≡ true → IsConcept schemas number
     named_concept nodes locators =
-        any_made is_it (IsConcept schemas number) (located schemas nodes)
-        (λ at. IfSome_then (located schemas nodes at) (located_concept schemas nodes at) (λ id h e. subst (IsConcept schemas) (eqb-true id.0 number e) h)) locators
+        any_made is_it (IsConcept schemas number) (concept_named_at schemas nodes)
+        (λ at. IfSome_then (concept_named_at schemas nodes at) (located_concept schemas nodes at) (λ id h e. subst (IsConcept schemas) (eqb-true id.0 number e) h)) locators
 
     drawn_concept : {D : Type 0} (draw : D → NameId → NameId → ListedArc) → ((d : D) → HasEnds (draw d)) → (nodes : List Node) (at : ℕ) (o : Option D)
         → list_any ends_at (option_map_or (λ d. drawn_between (draw d) (concepts_at schemas nodes (sources nodes at)) (concepts_at schemas nodes (targets nodes at))) o []) ≡ true → IsConcept schemas number
@@ -264,7 +264,7 @@ module _ (number : ℕ) where
         (ends_between (draw d) (has d) (concepts_at schemas nodes (sources nodes at)) (concepts_at schemas nodes (targets nodes at)) h)
 
     chosen_concept : (nodes : List Node) (at : ℕ) (b : Bool) → list_any ends_at (if b then arcs_of_element schemas nodes at else []) ≡ true → IsConcept schemas number
-    chosen_concept nodes at true h = drawn_concept arc_between (λ d s t. refl) nodes at (drawn_at nodes at) h
+    chosen_concept nodes at true h = drawn_concept arc_between (λ d s t. refl) nodes at (arc_element_at nodes at) h
     chosen_concept nodes at false h = absurd (false≢true h)
 
     part_concept : (kind : ArcKind) (nodes : List Node) → list_any ends_at (arcs_in kind schemas nodes) ≡ true → IsConcept schemas number

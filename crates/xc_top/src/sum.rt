@@ -209,7 +209,7 @@ fn wanted_of(alloc: Global, numbers: &Numbers) -> Result<Wanted, Memory>
 {
     let set = set_of(alloc, numbers.total, &numbers.terms)?;
     Ok(Wanted {
-        nodes: Items::of(set.listed(alloc)?),
+        nodes: Items::of(set.ids(alloc)?),
         typed: Items::of(Vec::new(alloc)),
     })
 }

@@ -24,6 +24,7 @@ by_label a b = ordering_then (nat_cmp a.link b.link) (slice_cmp nat_cmp a.label.
 abbrev pub is_linked_locator : List Node → ℕ → Bool
 is_linked_locator nodes at = is_link_element nodes (codes "loc") at && is_some (xlink_at nodes at (codes "href"))
 
+-- a link with a label, where there are both
 abbrev pub both : Option ℕ → Option (List ℕ) → Option (ℕ × List ℕ)
 both None label = None
 both (Some link) None = None

@@ -8,21 +8,21 @@ returns-in-None c = sym c.loop-first.invariant.all ∙ first_none c.args.prefixe
 
 pub loop-first-preserved : goal.loop-first-preserved
 loop-first-preserved c =
-    let name = c.in_ok-of-in-Some-expanded.field-0 in
-    let items : c.push.new.self.items ≡ c.loop-first.measures.items ++ name ∷ [] = c.in_ok-push-in-Some-expanded.ensures.items in
+    let name = c.in_ok-of-in-Some-expanded_name.field-0 in
+    let items : c.push.new.self.items ≡ c.loop-first.measures.items ++ name ∷ [] = c.in_ok-push-in-Some-expanded_name.ensures.items in
     record {
       text = search rules;
       all = ap (λ ms. option_map (λ rest. ms ++ rest) (product c.args.prefixes.now c.in-Some.rest.now)) items
-          ∙ sym (first_some c.args.prefixes.now c.loop-first.measures.items c.loop-first.left.now (c.in-Some.first.now, c.in-Some.rest.now) name (sym c.in-Some.ensures) (sym c.in-Some-expanded.ensures ∙ ap Some (sym c.in_ok-of-in-Some-expanded.ensures)))
+          ∙ sym (first_some c.args.prefixes.now c.loop-first.measures.items c.loop-first.left.now (c.in-Some.first.now, c.in-Some.rest.now) name (sym c.in-Some.ensures) (sym c.in-Some-expanded_name.ensures ∙ ap Some (sym c.in_ok-of-in-Some-expanded_name.ensures)))
           ∙ c.loop-first.invariant.all;
     }
 
-pub returns-in-None-expanded : goal.returns-in-None-expanded
-returns-in-None-expanded c = sym c.loop-first.invariant.all ∙ last_none c.args.prefixes.now c.loop-first.measures.items c.loop-first.left.now (sym c.in_default.ensures) (sym c.in-None-expanded.ensures)
+pub returns-in-None-expanded_name : goal.returns-in-None-expanded_name
+returns-in-None-expanded_name c = sym c.loop-first.invariant.all ∙ last_none c.args.prefixes.now c.loop-first.measures.items c.loop-first.left.now (sym c.in_default.ensures) (sym c.in-None-expanded_name.ensures)
 
 pub returns : goal.returns
 returns c =
-    let name = c.in_ok-of-in-Some-expanded-2.field-0 in
+    let name = c.in_ok-of-in-Some-expanded_name-2.field-0 in
     sym c.loop-first.invariant.all
-    ∙ last_some c.args.prefixes.now c.loop-first.measures.items c.loop-first.left.now name (sym c.in_default.ensures) (sym c.in-Some-expanded-2.ensures ∙ ap Some (sym c.in_ok-of-in-Some-expanded-2.ensures))
-    ∙ ap Some (sym (c.of-2.ensures ∙ c.in_ok-push-in-Some-expanded-2.ensures.items))
+    ∙ last_some c.args.prefixes.now c.loop-first.measures.items c.loop-first.left.now name (sym c.in_default.ensures) (sym c.in-Some-expanded_name-2.ensures ∙ ap Some (sym c.in_ok-of-in-Some-expanded_name-2.ensures))
+    ∙ ap Some (sym (c.of-2.ensures ∙ c.in_ok-push-in-Some-expanded_name-2.ensures.items))

@@ -4,7 +4,7 @@ use Rattle.std.specs.BTreeMap.{insert_entry}
 use Rattle.xc_report.specs.Dimensions.{dimension_cmp, in_order}
 use Rattle.xc_report.specs.declared.dimensions.Dimension.{Dimension}
 use Rattle.xc_report.specs.declared.dimensions.DimValue.{DimValue}
-use Rattle.xc_report.proofs.numbered.ordered.Given as goal
+use Rattle.xc_report.proofs.numbered.key_of_parts.Given as goal
 
 -- the map, with the parts that are left put in, is that of all
 abbrev pub invariant-loop-dimension : goal.invariant-loop-dimension

@@ -1,5 +1,5 @@
 use Rattle.std.proofs.Common.{◌≡◌, ◌++◌, map}
-use Rattle.xc_names.proofs.name_set.NameSet.listed.Given as goal
+use Rattle.xc_names.proofs.name_set.NameSet.ids.Given as goal
 
 -- the numbers so far and those that are left are all
 abbrev pub invariant-loop-number : goal.invariant-loop-number

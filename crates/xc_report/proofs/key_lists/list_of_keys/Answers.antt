@@ -2,7 +2,7 @@ use Rattle.std.proofs.Common.{◌≡◌, ◌++◌, sym, ap, subst, ◌∙◌}
 use Rattle.std.proofs.lemmas.List.{append-nil}
 use Rattle.xc_report.specs.Reports.{StandOnce}
 use Rattle.xc_report.proofs.KeyLaws.{once_from_distinct}
-use Rattle.xc_report.proofs.key_lists.moved.Goals as goal
+use Rattle.xc_report.proofs.key_lists.list_of_keys.Goals as goal
 
 pub returns-clause-once : goal.returns-clause-once
 returns-clause-once c =

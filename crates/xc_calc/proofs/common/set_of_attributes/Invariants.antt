@@ -1,6 +1,6 @@
 use Rattle.std.proofs.Common.{◌≡◌, drop, map}
 use Rattle.xc_calc.specs.Steps.Sets.{attribute_of, in_order, put_all}
-use Rattle.xc_calc.proofs.common.gathered.Given as goal
+use Rattle.xc_calc.proofs.common.set_of_attributes.Given as goal
 
 -- the set so far with those that are left
 abbrev pub invariant-loop-attribute : goal.invariant-loop-attribute

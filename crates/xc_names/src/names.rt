@@ -75,6 +75,14 @@ impl Names {
         }
     }
 
+    /// How many names there are. Each number is below it.
+    pub fn count(&self) -> u64
+        ensures count { result ≡ length self.now }
+        ensures numbered { AreNumbered self.now }
+    {
+        self.names.len() as u64
+    }
+
     /// The name of a number.
     pub fn name(&self, id: NameId) -> &Expanded
         requires { id.0 < length self.now }

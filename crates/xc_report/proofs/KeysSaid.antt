@@ -1,5 +1,5 @@
 -- A fact that was read states no dimension twice, so that its key says what it states.
-use Rattle.std.proofs.Common.{◌≡◌, ◌≢◌, ◌⊎◌, inl, inr, ◌||◌, ℕ, ◌+◌, ◌<◌, zero, suc, List, [], ◌∷◌, Bool, true, false, length, codes, Option, Some, None, Result, Ok, Err, get_or, refl, sym, ap, subst, ◌∙◌, arith}
+use Rattle.std.proofs.Common.{◌≡◌, ◌≢◌, inl, inr, ℕ, zero, suc, List, [], ◌∷◌, true, false, codes, Option, Some, None, refl, sym, ap, subst, ◌∙◌, arith}
 use Rattle.std.specs.Prelude.{All}
 use Rattle.std.specs.Cmp.Lexicographic.{slice_cmp, nat_list_cmp_total}
 use Rattle.std.specs.List.{AllByRecursion, IsDistinct, list_any, cons_option}
@@ -8,24 +8,20 @@ use Rattle.std.specs.Ordering.{nat_cmp}
 use Rattle.std.specs.declared.cmp.Ordering.TheVariants.{Less, Equal}
 use Rattle.std.proofs.lemmas.Bool.{and_from, or_parts, false_from_ne_true, true≢false}
 use Rattle.std.proofs.lemmas.Cmp.{tied_itself}
-use Rattle.std.proofs.lemmas.Option.{none-some, same_Some}
+use Rattle.std.proofs.lemmas.Option.{none-some}
 use Rattle.std.proofs.lemmas.Slice.Eq.{bytes_eq-Decides}
-use Rattle.serde_json.specs.Data.{Data, Members}
+use Rattle.serde_json.specs.Data.{Data}
 use Rattle.xc_names.specs.Laws.{NumbersTellNames}
-use Rattle.xc_names.specs.Names.{is_named}
 use Rattle.xc_names.specs.declared.expanded.Expanded.{Expanded}
 use Rattle.xc_names.specs.declared.expanded.NameId.{NameId}
 use Rattle.xc_report.specs.Dimensions.{kind, taxonomy_number, is_same_dimension}
 use Rattle.xc_report.specs.Json.{member_list}
 use Rattle.xc_report.specs.Laws.{SaysWhatIsStated, KeysSayWhatIsStated}
 use Rattle.xc_report.specs.Numbered.{id_of, dimension_in, IsPart, AreParts, IsKey}
-use Rattle.xc_report.specs.Opened.{Opened, opened}
-use Rattle.xc_report.specs.Rules.{States, StatesConcept, StatesEntity, StatesPeriod, StatesPure, StatesUnit, StatesLanguage, StatesNote, StatesTaxonomy, AllState, HasDimensions, IsReadable, AllSay}
-use Rattle.xc_report.specs.Stated.{is_same_name, has_twice, part}
-use Rattle.xc_report.specs.StatedFacts.{stated_facts}
+use Rattle.xc_report.specs.Rules.{States, StatesConcept, StatesEntity, StatesPeriod, StatesPure, StatesUnit, StatesLanguage, StatesNote, StatesTaxonomy, AllState, HasDimensions, AllSay}
+use Rattle.xc_report.specs.Stated.{is_same_name, has_twice}
 use Rattle.xc_report.specs.Wanted.{Known}
 use Rattle.xc_report.specs.declared.dimensions.Dimension.{Dimension}
-use Rattle.xc_report.specs.declared.dimensions.Dimension.TheVariants as numbered
 use Rattle.xc_report.specs.declared.dimensions.DimValue.{DimValue}
 use Rattle.xc_report.specs.declared.dimensions.Key.{Key}
 use Rattle.xc_report.specs.declared.stated.DimensionName.{DimensionName}

@@ -1,5 +1,7 @@
+mod Behind
 mod DoubleLaws
 mod Examples
+mod Gathered
 pub mod Json
 mod Kept
 mod JsonOrder

@@ -100,7 +100,7 @@ pub place_within : {X : Type 0} (p : X → Bool) (xs : List X) → list_any p xs
 place_within p [] h = absurd (true≢false (sym h))
 place_within p (x ∷ xs) h = place_at p x xs (p x) (place_within p xs) h
 
-all_there : (ks others : List Key) → AllByRecursion (λ k. list_any (is_same_key k) (fold with_key ks others) ≡ true) others
+pub all_there : (ks others : List Key) → AllByRecursion (λ k. list_any (is_same_key k) (fold with_key ks others) ≡ true) others
 all_there ks [] = tt
 all_there ks (o ∷ os) = (still_there (with_key ks o) os o (key_there ks o), all_there (with_key ks o) os)
 

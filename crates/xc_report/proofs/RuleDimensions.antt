@@ -1,13 +1,12 @@
 -- What a member of `dimensions` states by the rules is what is read of it.
-use Rattle.std.proofs.Common.{◌≡◌, ◌≢◌, ◌&&◌, ◌↔◌, ℕ, List, [], ◌∷◌, Bool, true, false, not, codes, Option, Some, None, option_map, option_and_then, is_some, if◌then◌else◌, refl, sym, ap, subst, ◌∙◌}
+use Rattle.std.proofs.Common.{◌≡◌, ◌≢◌, ◌&&◌, ℕ, List, [], ◌∷◌, Bool, true, false, not, codes, Option, Some, None, option_map, option_and_then, is_some, if◌then◌else◌, refl, sym, ap, subst, ◌∙◌}
 use Rattle.std.specs.List.{list_all, filter_map, cons_option}
 use Rattle.std.specs.Str.{bytes_eq}
 use Rattle.std.proofs.lemmas.Bool.{and_parts, and_from, false_from_ne_true, true≢false}
 use Rattle.std.proofs.lemmas.Option.{none-some, same_Some, option_and_then_some, cond_some}
 use Rattle.std.proofs.lemmas.Slice.Eq.{bytes_eq-Decides}
 use Rattle.serde_json.specs.Data.{Data, null, boolean, number, string, array, object, Num, Members}
-use Rattle.serde_json.specs.Find.{get, as_null, as_str, as_number, as_object}
-use Rattle.xc_names.specs.Prefixes.{Bindings}
+use Rattle.serde_json.specs.Find.{get, as_str, as_number, as_object}
 use Rattle.xc_names.specs.declared.expanded.Expanded.{Expanded}
 use Rattle.xc_report.specs.Json.{member_list}
 use Rattle.xc_report.specs.Prefixed.{expanded_name, expanded_loosely}

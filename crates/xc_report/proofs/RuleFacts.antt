@@ -1,9 +1,9 @@
 -- What a member of `facts` says by the rules, and the fault of one that breaks them, is what is read of it.
-use Rattle.std.proofs.Common.{◌≡◌, ◌≢◌, ◌⊎◌, inl, inr, ℕ, ℤ, List, [], ◌∷◌, codes, Option, Some, None, Result, Ok, Err, option_map, option_and_then, is_some, if◌then◌else◌, refl, sym, ap, subst, ◌∙◌}
+use Rattle.std.proofs.Common.{◌≡◌, ◌⊎◌, inl, inr, ℕ, ℤ, List, [], ◌∷◌, codes, Option, Some, None, Result, Ok, Err, option_map, option_and_then, refl, sym, ap, subst, ◌∙◌}
 use Rattle.std.specs.List.{filter_map, cons_option}
 use Rattle.std.proofs.lemmas.Option.{none-some, same_Some, option_and_then_some}
-use Rattle.serde_json.specs.Data.{Data, null, boolean, number, string, array, object, Num, Members}
-use Rattle.serde_json.specs.Find.{get, as_null, as_str, as_number, as_i64}
+use Rattle.serde_json.specs.Data.{Data, null, boolean, number, string, array, object, Members}
+use Rattle.serde_json.specs.Find.{get, as_str, as_number, as_i64}
 use Rattle.xc_chars.specs.Trimmed.{trimmed}
 use Rattle.xc_decimal.specs.Numbers.{reading}
 use Rattle.xc_decimal.specs.Shortest.{Shortest}
@@ -15,8 +15,7 @@ use Rattle.xc_names.specs.declared.expanded.NameId.{NameId}
 use Rattle.xc_report.specs.Json.{member_list, text_at}
 use Rattle.xc_report.specs.Prefixed.{expanded_name}
 use Rattle.xc_report.specs.Rules.{HasDimensions, IsAbout, IsOfNode, IsNil, HasText, Says, SaysNumber, SaysWide, HasDecimals, NoDecimals, WholeDecimals, IsLeftOut, OfNoNode, Nil, IsReadable, Breaks, NoConcept, NoValue, NoDimensions, NoNumber, BadDecimals, AllSay, FirstBreaks}
-use Rattle.xc_report.specs.Stated.{parts_of}
-use Rattle.xc_report.specs.StatedFacts.{dimensions_of, concept_text, concept_of, null_or_text, value_of, fact_parts, read_of, value_read, whole_or_none, decimals_of, with_decimals, with_reading, with_parts, with_value, with_node, with_concept, stated_fact, fact_in, fault_in, first, faults_of, facts_of, facts_unless, stated_facts}
+use Rattle.xc_report.specs.StatedFacts.{dimensions_of, concept_text, concept_of, null_or_text, value_of, fact_parts, read_of, value_read, whole_or_none, decimals_of, with_decimals, with_reading, with_parts, with_value, with_node, with_concept, stated_fact, fact_in, fault_in, first, facts_of, facts_unless, stated_facts}
 use Rattle.xc_report.specs.Wanted.{Known, node_of}
 use Rattle.xc_report.specs.declared.reports.Reading.{Reading}
 use Rattle.xc_report.specs.declared.reports.Reading.TheVariants as read

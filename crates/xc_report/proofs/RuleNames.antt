@@ -1,5 +1,5 @@
 -- What a text with a prefix stands for by the rules is what is read of it.
-use Rattle.std.proofs.Common.{◌≡◌, ◌&&◌, ℕ, List, true, Option, Some, None, option_map, option_and_then, refl, sym, ap, subst, ◌∙◌, if◌then◌else◌}
+use Rattle.std.proofs.Common.{◌≡◌, ◌&&◌, ℕ, List, true, Some, None, option_map, option_and_then, ap, subst, ◌∙◌, if◌then◌else◌}
 use Rattle.std.proofs.lemmas.Bool.{and_parts, and_from}
 use Rattle.std.proofs.lemmas.Option.{option_and_then_some, cond_some}
 use Rattle.std.specs.FinMap.{get}

@@ -1,13 +1,11 @@
 -- The period that a text states by the rules is its normal form.
 use Rattle.std.proofs.Common.{◌≡◌, ◌⊎◌, inl, inr, ◌&&◌, ◌++◌, ◌==◌, ℕ, List, [], ◌∷◌, Bool, true, false, codes, length, Option, Some, None, is_some, refl, sym, ap, subst, ◌∙◌, if◌then◌else◌, arith}
 use Rattle.std.specs.Char.{is_ascii_digit}
-use Rattle.std.specs.List.{list_all}
-use Rattle.std.proofs.lemmas.Bool.{and_parts, and_from, eqb-true, eq-eqb, true≢false}
+use Rattle.std.proofs.lemmas.Bool.{and_parts, and_from, eqb-true, true≢false}
 use Rattle.std.proofs.lemmas.List.{length-append, append_cancel_right}
 use Rattle.std.proofs.lemmas.Option.{same_Some}
 use Rattle.xc_chars.specs.Parts.{is_slash, around}
 use Rattle.xc_decimal.specs.Digits.{AreDigits}
-use Rattle.xc_lists.specs.Members.{Lacks}
 use Rattle.xc_report.specs.Forms.{fits_places}
 use Rattle.xc_report.specs.Laws.{IsTold, DaysAreMoments}
 use Rattle.xc_report.specs.Periods.{is_date, moment, moments, normal_period}

@@ -1,9 +1,18 @@
 -- What private steps of the code say. No public clause cites them.
-use Rattle.std.specs.Prelude.{◌≡◌, ◌≤◌, List, [], true, false, Option, Some, None, Result, Ok, Err, Vec, vec_capacity, length}
+pub mod Gained
+use Rattle.std.specs.Prelude.{◌≡◌, ◌≤◌, ◌++◌, List, [], true, false, Option, Some, None, Result, Ok, Err, Vec, vec_capacity, length}
 use Rattle.std.specs.declared.alloc.Global.{Global}
 use Rattle.serde_json.specs.Data.{Members}
 use Rattle.xc_report.specs.Stated.{are_parts, given_parts}
+use Rattle.xc_report.specs.Reports.{StatedIdsAscend}
 use Rattle.xc_report.specs.StatedFacts.{first, faults_of, facts_of}
+use Rattle.xc_names.specs.Names.{AreNumbered, KeepsNumbers}
+use Rattle.xc_names.specs.declared.expanded.Expanded.{Expanded}
+use Rattle.xc_report.specs.Dimensions.{distinct}
+use Rattle.xc_report.specs.Numbered.{AreKeyed, IsReport, keys_of, numbered_facts}
+use Rattle.xc_report.specs.declared.numbered.KeyedFact.{KeyedFact}
+use Rattle.xc_report.specs.declared.reports.Fact.{Fact}
+use Rattle.xc_report.specs.declared.reports.Report.{Report}
 use Rattle.xc_report.specs.declared.stated.StatedFact.{StatedFact}
 use Rattle.xc_report.specs.declared.stated.StatedPart.{StatedPart}
 use Rattle.xc_report.specs.Wanted.{Known}
@@ -25,15 +34,23 @@ abbrev pub Tells : {A : Type 0} → Result A ReportFault → Result A ReportFaul
 Tells (Ok a) answer = answer ≡ Ok a
 Tells (Err e) answer = ¬ (e ≡ fault.Memory) → answer ≡ Err e
 
--- facts in a vector, or their fault
-abbrev pub TellsStated : Result (Vec StatedFact Global) ReportFault → Result (List StatedFact) ReportFault → Type 0
-TellsStated (Ok facts) answer = answer ≡ Ok facts.items
-TellsStated (Err e) answer = ¬ (e ≡ fault.Memory) → answer ≡ Err e
+-- facts that were read one after another: names that keep their numbers from here on give them keys, and each fact has the number of its key among these
+pub record AreGathered (names : List Expanded) (stated : List StatedFact) (facts : List Fact) (keys : List Key) : Type 0 where
+  pub keyed : List KeyedFact
+  pub each : (later : List Expanded) → KeepsNumbers names later → AreKeyed later stated keyed
+  pub keys_are : keys ≡ distinct (keys_of keyed)
+  pub facts_are : facts ≡ numbered_facts keyed
 
--- what is answered of the members of `facts`
-abbrev pub TellsFacts : Result (Vec StatedFact Global) ReportFault → Known → Members → Type 0
-TellsFacts (Ok facts) known ms = (first (faults_of known ms) ≡ None) × (facts.items ≡ facts_of known ms)
-TellsFacts (Err e) known ms = ¬ (e ≡ fault.Memory) → first (faults_of known ms) ≡ Some e
+-- what is answered of the members of `facts`, with these names
+abbrev pub TellsReport : Result Report ReportFault → Known → Members → List Expanded → Type 0
+TellsReport (Ok report) known ms names = (first (faults_of known ms) ≡ None) × ((later : List Expanded) → KeepsNumbers names later → IsReport later (facts_of known ms) report)
+TellsReport (Err e) known ms names = ¬ (e ≡ fault.Memory) → first (faults_of known ms) ≡ Some e
+
+-- what is answered of them, with the names that are gained behind these: a report of what they state, by names that keep their numbers, and their ids ascend
+abbrev pub TellsRead : Result (Report × List Expanded) ReportFault → Known → Members → List Expanded → Type 0
+TellsRead (Ok read) known ms names =
+    TellsReport (Ok read.0) known ms (names ++ read.1) × StatedIdsAscend (facts_of known ms) × AreNumbered (names ++ read.1)
+TellsRead (Err e) known ms names = TellsReport (Err e) known ms names
 
 -- what is answered of members of `dimensions`: the parts that they give, or that not each is a dimension
 abbrev pub GivesParts : Result (Vec StatedPart Global) Refusal → Known → Members → Type 0

@@ -5,21 +5,20 @@ ghost use Rattle.serde_json.specs.View.{view, members_view};
 ghost use Rattle.xc_names.specs.Names.{KeepsNumbers};
 ghost use Rattle.xc_report.specs.Drafts.{draft_view};
 ghost use Rattle.xc_report.specs.Numbered.{IsReport};
-ghost use Rattle.xc_report.specs.Opened.{opened, first_wrong, are_texts_or_missing, is_object_or_missing, declared_by, declared_after, namespaces_in, text_of};
+ghost use Rattle.xc_report.specs.Opened.{opened, first_wrong, are_texts_or_missing, is_object_or_missing, declared_by, declared_after, namespaces_in, members_or_none, text_of};
 ghost use Rattle.xc_report.specs.Json.{json_of};
-ghost use Rattle.xc_report.specs.Steps.{TellsStated};
-ghost use Rattle.xc_report.specs.Reports.{IdsAscend, StatedIdsAscend, StandOnce, KeysAscend, HaveKeys};
+ghost use Rattle.xc_report.specs.Steps.{TellsRead};
+ghost use Rattle.xc_report.specs.Reports.{IdsAscend, StandOnce, KeysAscend, HaveKeys};
 ghost use Rattle.xc_report.specs.StatedFacts.{stated_facts};
 ghost use Rattle.xc_report.specs.Wanted.{known_of};
 ghost use Rattle.xc_report.specs.declared.stated.StatedFact.{StatedFact as Stated};
 ghost use Rattle.xc_report.specs.declared.reports.ReportFault.TheVariants as ReportFault;
 
+use crate::gained::{Gained, add_gained};
 use crate::known::Known;
 use crate::numbered::numbered_report;
 use crate::parts::{are_texts, has_json_type};
 use crate::reports::{Member, Report, ReportFault};
-use crate::stated::StatedFact;
-use crate::stated_facts::stated_facts;
 use serde_json::{Map, Value};
 use std::alloc::Global;
 use xc_lists::Memory;
@@ -79,20 +78,58 @@ impl Draft {
         ensures kept { KeepsNumbers names.old names.new }
         ensures unchanged { IfErr result (λ e. ¬ (e ≡ ReportFault.Memory) → names.new ≡ names.old) }
     {
-        let facts = self.facts_by_name(names, wanted)?;
-        Ok(numbered_report(self.alloc, names, facts)?)
+        let (report, gained) = self.read(names, wanted)?;
+        add_gained(names, &gained)?;
+        Ok(report)
     }
 
-    // The facts by expanded names.
-    fn facts_by_name(&self, names: &Names, wanted: &Wanted) -> Result<Vec<StatedFact>, ReportFault>
-        ensures ascending { IfOk result (λ facts. StatedIdsAscend facts.items) }
-        ensures answer { TellsStated result (stated_facts (known_of (draft_view self.now).prefixes names.now wanted.now) (draft_view self.now).facts) }
+    // The report, and the names that it gains.
+    fn read(self, names: &Names, wanted: &Wanted) -> Result<(Report, Names), ReportFault>
+        ensures report { TellsRead result (known_of (draft_view self).prefixes names.now wanted.now) (draft_view self).facts names.now }
     {
-        let known = Known::of(self.alloc, &self.prefixes, names, wanted)?;
-        match self.report.get("facts").and_then(Value::as_object) {
-            Some(members) => stated_facts(self.alloc, &known, members),
-            None => Ok(Vec::new(self.alloc)),
+        let Draft {
+            report,
+            prefixes,
+            alloc,
+        } = self;
+        let known = Known::of(alloc, &prefixes, names, wanted)?;
+        let mut gained = Gained::new(alloc, names);
+        let members = object_in(alloc, member_in(report, "facts"));
+        let report = numbered_report(alloc, &known, &mut gained, members)?;
+        Ok((report, gained.into_gained()))
+    }
+}
+
+// The value of a member, where there is one. All else of a value is let go.
+fn member_in(value: Value, name: &str) -> Option<Value>
+    ensures { option_map view result ≡ get name.now (view value) }
+{
+    match value {
+        Value::Object(members) => {
+            let mut members = members;
+            members.remove(name)
         }
+        _ => None,
+    }
+}
+
+// The members of an object that may be missing, or none.
+fn object_in(alloc: Global, value: Option<Value>) -> Map<String, Value>
+    ensures { members_view result.entries ≡ members_or_none (option_map view value) }
+{
+    match value {
+        Some(value) => object_of(alloc, value),
+        None => Map::new(alloc),
+    }
+}
+
+// The members of an object, or none.
+fn object_of(alloc: Global, value: Value) -> Map<String, Value>
+    ensures { members_view result.entries ≡ members_or_none (Some (view value)) }
+{
+    match value {
+        Value::Object(members) => members,
+        _ => Map::new(alloc),
     }
 }
 

@@ -9,6 +9,7 @@ mod dimensions;
 mod doubles;
 mod drafts;
 mod forms;
+mod gained;
 mod key_lists;
 mod known;
 pub mod laws;

@@ -1,20 +1,29 @@
 // What a report states, by the numbers of names.
 ghost use Rattle.std.specs.Prelude.{◌≡◌, Some, List, IfOk, OnOk};
 ghost use Rattle.std.specs.BTreeMap.{insert_entry};
+ghost use Rattle.serde_json.specs.View.{members_view};
 ghost use Rattle.xc_names.specs.Names.{KeepsNumbers};
 ghost use Rattle.xc_names.specs.declared.expanded.Expanded.{Expanded as Name};
-ghost use Rattle.xc_report.specs.Dimensions.{dimension_cmp, in_order, distinct, with_key};
-ghost use Rattle.xc_report.specs.Numbered.{id_of, dimension_in, AreMeasures, IsValue, IsPart, AreParts, IsKey, IsKeyed, AreKeyed, IsReport, keys_of, numbered_in, numbered_facts};
+ghost use Rattle.xc_report.specs.Dimensions.{dimension_cmp, in_order, with_key};
+ghost use Rattle.xc_report.specs.Numbered.{id_of, dimension_in, AreMeasures, IsValue, IsPart, AreParts, IsKeyed, numbered_in};
 ghost use Rattle.xc_report.specs.Each.{each_some};
+ghost use Rattle.xc_report.specs.Reports.{StatedIdsAscend};
+ghost use Rattle.xc_report.specs.StatedFacts.{facts_of};
+ghost use Rattle.xc_report.specs.Steps.{TellsReport, known_view};
+ghost use Rattle.xc_report.specs.Steps.Gained.{all_names};
 
 use crate::dimensions::{DimValue, Dimension, Key};
+use crate::gained::Gained;
 use crate::key_lists::Keys;
-use crate::reports::{Fact, Reading, Report};
+use crate::known::Known;
+use crate::reports::{Fact, Reading, Report, ReportFault};
 use crate::stated::{DimensionName, StatedFact, StatedPart, StatedValue};
+use crate::stated_facts::stated_fact;
+use serde_json::{Map, Value};
 use std::alloc::Global;
 use std::collections::BTreeMap;
 use xc_lists::{Items, Memory, Text};
-use xc_names::{Expanded, NameId, Names};
+use xc_names::{Expanded, NameId};
 
 /// A fact with its key, which has no number yet.
 #[derive(Debug, Drop)]
@@ -26,38 +35,41 @@ pub struct KeyedFact {
     pub decimals: Option<i64>,
 }
 
-/// The report of these facts. Names that have no number yet are numbered.
+/// The report of members: the facts that are not left out, with their keys, or the first fault by their
+/// ids.
+///
+/// A member is let go once it is read, and what it states by expanded names once it has its key, so that
+/// no name is kept with a fact.
 pub fn numbered_report(
     alloc: Global,
-    names: &mut Names,
-    facts: Vec<StatedFact>,
-) -> Result<Report, Memory>
-    ensures report { IfOk result (λ report. IsReport names.new facts.items report) }
-    ensures kept { KeepsNumbers names.old names.new }
+    known: &Known<'_>,
+    names: &mut Gained<'_>,
+    members: Map<String, Value>,
+) -> Result<Report, ReportFault>
+    ensures report { TellsReport result (known_view known.now) (members_view members.entries) (all_names names.new) }
+    ensures ascending { IfOk result (λ _. StatedIdsAscend (facts_of (known_view known.now) (members_view members.entries))) }
+    ensures there { names.new.there ≡ names.old.there }
+    ensures kept { KeepsNumbers (all_names names.old) (all_names names.new) }
 {
-    let keyed = keyed_facts(alloc, names, facts)?;
-    placed_facts(alloc, keyed)
-}
-
-// The facts with their keys, in their order.
-fn keyed_facts(
-    alloc: Global,
-    names: &mut Names,
-    facts: Vec<StatedFact>,
-) -> Result<Vec<KeyedFact>, Memory>
-    ensures facts { IfOk result (λ keyed. (later : List Name) → KeepsNumbers names.new later → AreKeyed later facts.items keyed.items) }
-    ensures kept { KeepsNumbers names.old names.new }
-{
-    let mut keyed = Vec::new(alloc);
-    for fact in facts {
-        keyed.push(keyed_fact(alloc, names, fact)?)?;
+    let mut keys = Keys::new(alloc);
+    let mut facts = Vec::new(alloc);
+    for (id, member) in members {
+        if let Some(fact) = stated_fact(alloc, known, id.as_str(), &member)? {
+            let keyed = keyed_fact(alloc, names, fact)?;
+            facts.push(place_fact(&mut keys, keyed)?)?;
+        }
     }
-    Ok(keyed)
+    Ok(Report {
+        facts: Items::of(facts),
+        keys: Items::of(keys.into_list()),
+    })
 }
 
-fn keyed_fact(alloc: Global, names: &mut Names, fact: StatedFact) -> Result<KeyedFact, Memory>
-    ensures fact { IfOk result (λ keyed. (later : List Name) → KeepsNumbers names.new later → IsKeyed later fact keyed) }
-    ensures kept { KeepsNumbers names.old names.new }
+// A fact with its key.
+fn keyed_fact(alloc: Global, names: &mut Gained<'_>, fact: StatedFact) -> Result<KeyedFact, Memory>
+    ensures fact { IfOk result (λ keyed. (later : List Name) → KeepsNumbers (all_names names.new) later → IsKeyed later fact keyed) }
+    ensures there { names.new.there ≡ names.old.there }
+    ensures kept { KeepsNumbers (all_names names.old) (all_names names.new) }
 {
     let parts = numbered_parts(alloc, names, fact.parts.into_vec())?;
     let key = key_of_parts(alloc, parts)?;
@@ -73,11 +85,12 @@ fn keyed_fact(alloc: Global, names: &mut Names, fact: StatedFact) -> Result<Keye
 // Dimensions and values by numbers, one by one.
 fn numbered_parts(
     alloc: Global,
-    names: &mut Names,
+    names: &mut Gained<'_>,
     parts: Vec<StatedPart>,
 ) -> Result<Vec<(Dimension, DimValue)>, Memory>
-    ensures parts { IfOk result (λ numbered. (later : List Name) → KeepsNumbers names.new later → AreParts later parts.items numbered.items) }
-    ensures kept { KeepsNumbers names.old names.new }
+    ensures parts { IfOk result (λ numbered. (later : List Name) → KeepsNumbers (all_names names.new) later → AreParts later parts.items numbered.items) }
+    ensures there { names.new.there ≡ names.old.there }
+    ensures kept { KeepsNumbers (all_names names.old) (all_names names.new) }
 {
     let mut numbered = Vec::new(alloc);
     for part in parts {
@@ -88,20 +101,22 @@ fn numbered_parts(
 
 fn numbered_part(
     alloc: Global,
-    names: &mut Names,
+    names: &mut Gained<'_>,
     part: StatedPart,
 ) -> Result<(Dimension, DimValue), Memory>
-    ensures part { IfOk result (λ numbered. (later : List Name) → KeepsNumbers names.new later → IsPart later part numbered) }
-    ensures kept { KeepsNumbers names.old names.new }
+    ensures part { IfOk result (λ numbered. (later : List Name) → KeepsNumbers (all_names names.new) later → IsPart later part numbered) }
+    ensures there { names.new.there ≡ names.old.there }
+    ensures kept { KeepsNumbers (all_names names.old) (all_names names.new) }
 {
     let dimension = numbered_dimension(names, &part.dimension)?;
     let value = numbered_value(alloc, names, part.value)?;
     Ok((dimension, value))
 }
 
-fn numbered_dimension(names: &mut Names, name: &DimensionName) -> Result<Dimension, Memory>
-    ensures dimension { IfOk result (λ dimension. (later : List Name) → KeepsNumbers names.new later → dimension_in later name.now ≡ Some dimension) }
-    ensures kept { KeepsNumbers names.old names.new }
+fn numbered_dimension(names: &mut Gained<'_>, name: &DimensionName) -> Result<Dimension, Memory>
+    ensures dimension { IfOk result (λ dimension. (later : List Name) → KeepsNumbers (all_names names.new) later → dimension_in later name.now ≡ Some dimension) }
+    ensures there { names.new.there ≡ names.old.there }
+    ensures kept { KeepsNumbers (all_names names.old) (all_names names.new) }
 {
     match name {
         DimensionName::Entity => Ok(Dimension::Entity),
@@ -113,9 +128,14 @@ fn numbered_dimension(names: &mut Names, name: &DimensionName) -> Result<Dimensi
     }
 }
 
-fn numbered_value(alloc: Global, names: &mut Names, value: StatedValue) -> Result<DimValue, Memory>
-    ensures value { IfOk result (λ numbered. (later : List Name) → KeepsNumbers names.new later → IsValue later value numbered) }
-    ensures kept { KeepsNumbers names.old names.new }
+fn numbered_value(
+    alloc: Global,
+    names: &mut Gained<'_>,
+    value: StatedValue,
+) -> Result<DimValue, Memory>
+    ensures value { IfOk result (λ numbered. (later : List Name) → KeepsNumbers (all_names names.new) later → IsValue later value numbered) }
+    ensures there { names.new.there ≡ names.old.there }
+    ensures kept { KeepsNumbers (all_names names.old) (all_names names.new) }
 {
     match value {
         StatedValue::Pair(scheme, identifier) => Ok(DimValue::Pair(scheme, identifier)),
@@ -133,20 +153,22 @@ fn numbered_value(alloc: Global, names: &mut Names, value: StatedValue) -> Resul
 // The numbers of measures, ascending.
 fn numbered_measures(
     alloc: Global,
-    names: &mut Names,
+    names: &mut Gained<'_>,
     measures: &Items<Expanded>,
 ) -> Result<Items<NameId>, Memory>
-    ensures measures { IfOk result (λ ids. (later : List Name) → KeepsNumbers names.new later → AreMeasures later measures.now ids) }
-    ensures kept { KeepsNumbers names.old names.new }
+    ensures measures { IfOk result (λ ids. (later : List Name) → KeepsNumbers (all_names names.new) later → AreMeasures later measures.now ids) }
+    ensures there { names.new.there ≡ names.old.there }
+    ensures kept { KeepsNumbers (all_names names.old) (all_names names.new) }
 {
     let mut ids = numbers(alloc, names, measures.as_slice())?;
     ids.sort()?;
     Ok(Items::of(ids))
 }
 
-fn numbers(alloc: Global, names: &mut Names, list: &[Expanded]) -> Result<Vec<NameId>, Memory>
-    ensures numbers { IfOk result (λ ids. (later : List Name) → KeepsNumbers names.new later → each_some (id_of later) list.now ≡ Some ids.items) }
-    ensures kept { KeepsNumbers names.old names.new }
+fn numbers(alloc: Global, names: &mut Gained<'_>, list: &[Expanded]) -> Result<Vec<NameId>, Memory>
+    ensures numbers { IfOk result (λ ids. (later : List Name) → KeepsNumbers (all_names names.new) later → each_some (id_of later) list.now ≡ Some ids.items) }
+    ensures there { names.new.there ≡ names.old.there }
+    ensures kept { KeepsNumbers (all_names names.old) (all_names names.new) }
 {
     let mut ids = Vec::new(alloc);
     for name in list {
@@ -155,9 +177,10 @@ fn numbers(alloc: Global, names: &mut Names, list: &[Expanded]) -> Result<Vec<Na
     Ok(ids)
 }
 
-fn number(names: &mut Names, name: &Expanded) -> Result<NameId, Memory>
-    ensures number { IfOk result (λ id. (later : List Name) → KeepsNumbers names.new later → id_of later name.now ≡ Some id) }
-    ensures kept { KeepsNumbers names.old names.new }
+fn number(names: &mut Gained<'_>, name: &Expanded) -> Result<NameId, Memory>
+    ensures number { IfOk result (λ id. (later : List Name) → KeepsNumbers (all_names names.new) later → id_of later name.now ≡ Some id) }
+    ensures there { names.new.there ≡ names.old.there }
+    ensures kept { KeepsNumbers (all_names names.old) (all_names names.new) }
 {
     names.number(name.space.as_str(), name.local.as_str())
 }
@@ -184,22 +207,7 @@ fn put(
     Ok(())
 }
 
-// The facts, each with the number of its key, and the keys in the order of their first facts.
-fn placed_facts(alloc: Global, keyed: Vec<KeyedFact>) -> Result<Report, Memory>
-    ensures keys { IfOk result (λ report. report.keys ≡ distinct (keys_of keyed.items)) }
-    ensures facts { IfOk result (λ report. report.facts ≡ numbered_facts keyed.items) }
-{
-    let mut keys = Keys::new(alloc);
-    let mut facts = Vec::new(alloc);
-    for fact in keyed {
-        facts.push(place_fact(&mut keys, fact)?)?;
-    }
-    Ok(Report {
-        facts: Items::of(facts),
-        keys: Items::of(keys.into_list()),
-    })
-}
-
+// A fact with the number of its key among these.
 fn place_fact(keys: &mut Keys, fact: KeyedFact) -> Result<Fact, Memory>
     ensures fact { IfOk result (λ made. made ≡ numbered_in keys.new fact) }
     ensures keys { OnOk result (keys.new ≡ with_key keys.old fact.key) }

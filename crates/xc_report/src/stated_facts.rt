@@ -1,9 +1,8 @@
-// The facts of a report by expanded names, or the first fault.
-ghost use Rattle.std.specs.Prelude.{◌≡◌, ◌++◌, Option, Some, option_map, IfOk, IfErr};
-ghost use Rattle.serde_json.specs.View.{view, members_view};
+// What one fact of a report states, by expanded names, or its fault.
+ghost use Rattle.std.specs.Prelude.{◌≡◌, option_map};
+ghost use Rattle.serde_json.specs.View.{view};
 ghost use Rattle.xc_names.specs.Names.{lent_name};
-ghost use Rattle.xc_report.specs.Steps.{Reads, Tells, TellsFacts, known_view};
-ghost use Rattle.xc_report.specs.Reports.{StatedIdsAscend};
+ghost use Rattle.xc_report.specs.Steps.{Reads, Tells, known_view};
 ghost use Rattle.xc_report.specs.StatedFacts.{concept_text, concept_of, null_or_text, value_of, fact_parts, value_read, read_of, decimals_of, whole_or_none, stated_fact, with_node, with_value, with_parts, with_reading, with_decimals};
 ghost use Rattle.xc_report.specs.declared.reports.ReportFault.TheVariants as ReportFault;
 
@@ -12,34 +11,16 @@ use crate::prefixed::expanded_name;
 use crate::reports::{Reading, ReportFault};
 use crate::stated::{Refusal, StatedFact, StatedPart};
 use crate::stated_parts::parts_of;
-use serde_json::{Map, Value};
+use serde_json::Value;
 use std::alloc::Global;
 use xc_chars::trimmed;
 use xc_decimal::{DecimalFault, read_decimal};
 use xc_lists::{Items, Text};
 use xc_names::{NameId, Prefixes};
 
-/// The facts of members that are not left out, in the order of their ids as bytes, or the first fault
-/// by their ids.
-pub fn stated_facts(
-    alloc: Global,
-    known: &Known<'_>,
-    members: &Map<String, Value>,
-) -> Result<Vec<StatedFact>, ReportFault>
-    ensures answer { TellsFacts result (known_view known.now) (members_view members.now.entries) }
-    ensures ascending { IfOk result (λ facts. StatedIdsAscend facts.items) }
-{
-    let mut facts = Vec::new(alloc);
-    for (id, fact) in members {
-        if let Some(fact) = stated_fact(alloc, known, id.as_str(), fact)? {
-            facts.push(fact)?;
-        }
-    }
-    Ok(facts)
-}
-
-// What a member of `facts` states; nothing where its concept is no node or its value is null.
-fn stated_fact(
+/// What a member of `facts` states, or its fault; nothing where its concept is no node or its value is
+/// null.
+pub fn stated_fact(
     alloc: Global,
     known: &Known<'_>,
     id: &str,

@@ -9,6 +9,7 @@ pub loop-part-preserved : goal.loop-part-preserved
 loop-part-preserved c = record {
   can = tt;
   ends = tt;
+  there = c.numbered_part.ensures.there ∙ c.loop-part.invariant.there;
   kept = kept_on _ _ _ c.loop-part.invariant.kept c.numbered_part.ensures.kept;
   each = λ later keeps rest are.
       let made = c.in_ok-numbered_part.field-0 in

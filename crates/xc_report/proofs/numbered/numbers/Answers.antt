@@ -9,6 +9,7 @@ use Rattle.xc_report.proofs.numbered.numbers.Goals as goal
 
 pub loop-name-preserved : goal.loop-name-preserved
 loop-name-preserved c = record {
+  there = c.number.ensures.there ∙ c.loop-name.invariant.there;
   kept = kept_on _ _ _ c.loop-name.invariant.kept c.number.ensures.kept;
   each = λ later keeps rest e.
       let id = c.in_ok-number.field-0 in

@@ -1,0 +1,10 @@
+use Rattle.std.proofs.Common.{◌∙◌, ap, sym, option_map}
+use Rattle.serde_json.proofs.Views.{view-Object, view-lookup}
+use Rattle.serde_json.specs.Find.{get}
+use Rattle.serde_json.specs.View.{view}
+use Rattle.xc_report.proofs.drafts.member_in.Goals as goal
+
+pub returns-in-Object : goal.returns-in-Object
+returns-in-Object c =
+    ap (option_map view) c.remove.ensures.value ∙ view-lookup c.args.name.now c.in-Object.members.entries
+    ∙ sym (ap (get c.args.name.now) (ap view c.in-Object.is ∙ view-Object c.in-Object.members))

@@ -1,7 +1,7 @@
 // Multipliers that refute a forest: what was done while its vertices were taken away is undone.
 ghost use Rattle.std.specs.Prelude.{◌≡◌, ℕ, ◌+◌, ◌<◌, ◌∷◌, [], ◌++◌, ◌^◌, Bool, not, IfOk, length};
 ghost use Rattle.xc_forest.specs.Forests.{IsUnit, multiplier_at, number_with_sign};
-ghost use Rattle.xc_forest.specs.Steps.Links.{IsListing, graph_of};
+ghost use Rattle.xc_forest.specs.Steps.Links.{IsListingOf};
 ghost use Rattle.xc_forest.specs.Steps.Shares.{IsShare, AreZero};
 ghost use Rattle.xc_forest.specs.Steps.Trails.{AreRefuted, IsClash, with_alone, with_point, with_row};
 
@@ -21,7 +21,7 @@ pub(crate) fn multipliers<E: Exact>(
     undos: Vec<Undo<E>>,
     clash: Clash,
 ) -> Result<Vec<i8>, Memory>
-    requires listing { IsListing (graph_of (length forest.now.ranges) forest.now.rows) (length forest.now.ranges + length forest.now.rows) links.now }
+    requires listing { IsListingOf forest.now links.now }
     requires points { length forest.now.ranges < 2 ^ 31 }
     requires rows { length forest.now.rows < 2 ^ 31 }
     requires clash { IsClash E.parts forest.now links.now undos.items clash }
@@ -60,7 +60,7 @@ fn put_multiplier_back<E: Exact>(
     multipliers: &mut Vec<i8>,
     undo: Undo<E>,
 )
-    requires listing { IsListing (graph_of (length forest.now.ranges) forest.now.rows) (length forest.now.ranges + length forest.now.rows) links.now }
+    requires listing { IsListingOf forest.now links.now }
     requires refuted { AreRefuted E.parts forest.now links.now (undos.now ++ undo ∷ []) multipliers.old.items }
     ensures { AreRefuted E.parts forest.now links.now undos.now multipliers.new.items }
 {
@@ -122,7 +122,7 @@ fn put_point_multiplier<E: Exact>(
     of_row: Bounds<E>,
     of_point: Bounds<E>,
 )
-    requires listing { IsListing (graph_of (length forest.now.ranges) forest.now.rows) (length forest.now.ranges + length forest.now.rows) links.now }
+    requires listing { IsListingOf forest.now links.now }
     requires refuted { AreRefuted E.parts forest.now links.now (with_point undos.now point row minus of_row of_point) multipliers.old.items }
     ensures { AreRefuted E.parts forest.now links.now undos.now multipliers.new.items }
 {
@@ -150,7 +150,7 @@ fn put_row_multiplier<E: Exact>(
     low_of_row: bool,
     high_of_row: bool,
 )
-    requires listing { IsListing (graph_of (length forest.now.ranges) forest.now.rows) (length forest.now.ranges + length forest.now.rows) links.now }
+    requires listing { IsListingOf forest.now links.now }
     requires refuted { AreRefuted E.parts forest.now links.now (with_row undos.now row point minus low_of_row high_of_row) multipliers.old.items }
     ensures { AreRefuted E.parts forest.now links.now undos.now multipliers.new.items }
 {
@@ -168,7 +168,7 @@ fn put_lone_multiplier<E: Exact>(
     vertex: u32,
     value: E,
 )
-    requires listing { IsListing (graph_of (length forest.now.ranges) forest.now.rows) (length forest.now.ranges + length forest.now.rows) links.now }
+    requires listing { IsListingOf forest.now links.now }
     requires refuted { AreRefuted E.parts forest.now links.now (with_alone undos.now vertex value) multipliers.old.items }
     ensures { AreRefuted E.parts forest.now links.now undos.now multipliers.new.items }
 {

@@ -2,7 +2,7 @@
 ghost use Rattle.std.specs.Prelude.{◌≡◌, ℕ, ◌+◌, ◌<◌, ◌≤◌, ◌^◌, ◌∷◌, [], ◌++◌, Bool, true, false, not, IfOk, MatchOption, length, drop, slice_index_or, slice_set};
 ghost use Rattle.xc_forest.specs.Forests.{HasRoom, ranges_of};
 ghost use Rattle.xc_lists.specs.Members.{IsIn};
-ghost use Rattle.xc_forest.specs.Steps.Links.{IsListing, graph_of, link_at};
+ghost use Rattle.xc_forest.specs.Steps.Links.{IsListingOf, link_at};
 ghost use Rattle.xc_forest.specs.Steps.Scaled.{AreBoundsOver, AreSpansOver, first_spans, scale_of};
 ghost use Rattle.xc_forest.specs.Steps.Trails.{IsClash, IsNarrowed, point_clash, row_clash};
 
@@ -55,7 +55,7 @@ pub(crate) fn take_vertices<E: Exact>(
     spans: &mut Vec<Bounds<E>>,
     undos: &mut Vec<Undo<E>>,
 ) -> Result<Option<Clash>, Memory>
-    requires listing { IsListing (graph_of (length forest.now.ranges) forest.now.rows) (length forest.now.ranges + length forest.now.rows) links.now }
+    requires listing { IsListingOf forest.now links.now }
     requires room { HasRoom E.parts E.passes (ranges_of E.parts forest.now.ranges) }
     requires narrowed { IsNarrowed E.parts forest.now links.now 0 spans.old.items undos.old.items }
     ensures { IfOk result (λ clash. MatchOption clash (IsNarrowed E.parts forest.now links.now (length links.now) spans.new.items undos.new.items)
@@ -78,7 +78,7 @@ fn take_vertex<E: Exact>(
     undos: &mut Vec<Undo<E>>,
 ) -> Result<Option<Clash>, Memory>
     requires there { k < length links.now }
-    requires listing { IsListing (graph_of (length forest.now.ranges) forest.now.rows) (length forest.now.ranges + length forest.now.rows) links.now }
+    requires listing { IsListingOf forest.now links.now }
     requires room { HasRoom E.parts E.passes (ranges_of E.parts forest.now.ranges) }
     requires narrowed { IsNarrowed E.parts forest.now links.now k spans.old.items undos.old.items }
     ensures { IfOk result (λ clash. MatchOption clash (IsNarrowed E.parts forest.now links.now (k + 1) spans.new.items undos.new.items)
@@ -104,7 +104,7 @@ fn take_alone<E: Exact>(
     undos: &mut Vec<Undo<E>>,
 ) -> Result<Option<Clash>, Memory>
     requires there { k < length links.now }
-    requires listing { IsListing (graph_of (length forest.now.ranges) forest.now.rows) (length forest.now.ranges + length forest.now.rows) links.now }
+    requires listing { IsListingOf forest.now links.now }
     requires narrowed { IsNarrowed E.parts forest.now links.now k spans.now undos.old.items }
     requires alone { (link_at links.now k).is_alone ≡ true }
     ensures { IfOk result (λ clash. MatchOption clash (IsNarrowed E.parts forest.now links.now (k + 1) spans.now undos.new.items)
@@ -154,7 +154,7 @@ fn take_point<E: Exact>(
     undos: &mut Vec<Undo<E>>,
 ) -> Result<(), Memory>
     requires there { k < length links.now }
-    requires listing { IsListing (graph_of (length forest.now.ranges) forest.now.rows) (length forest.now.ranges + length forest.now.rows) links.now }
+    requires listing { IsListingOf forest.now links.now }
     requires room { HasRoom E.parts E.passes (ranges_of E.parts forest.now.ranges) }
     requires narrowed { IsNarrowed E.parts forest.now links.now k spans.old.items undos.old.items }
     requires last { (link_at links.now k).is_alone ≡ false }
@@ -184,7 +184,7 @@ fn take_row<E: Exact>(
     undos: &mut Vec<Undo<E>>,
 ) -> Result<Option<Clash>, Memory>
     requires there { k < length links.now }
-    requires listing { IsListing (graph_of (length forest.now.ranges) forest.now.rows) (length forest.now.ranges + length forest.now.rows) links.now }
+    requires listing { IsListingOf forest.now links.now }
     requires narrowed { IsNarrowed E.parts forest.now links.now k spans.old.items undos.old.items }
     requires last { (link_at links.now k).is_alone ≡ false }
     requires kind { length forest.now.ranges ≤ (link_at links.now k).vertex }

@@ -2,7 +2,7 @@
 ghost use Rattle.std.specs.Prelude.{◌≡◌, ℕ, ◌+◌, ◌<◌, ◌^◌, IfOk, length, map};
 ghost use Rattle.xc_forest.specs.Forests.{AreRanges, AreRows, HasNoCycle, HasRoom, ranges_of};
 ghost use Rattle.xc_forest.specs.Settled.{Settles};
-ghost use Rattle.xc_forest.specs.Steps.Links.{IsListing, graph_of};
+ghost use Rattle.xc_forest.specs.Steps.Links.{IsListingOf};
 ghost use Rattle.xc_forest.specs.Steps.Trails.{AreAllTaken, IsClash};
 
 use crate::links::{Link, links};
@@ -43,7 +43,7 @@ fn settle_in_order<E: Exact>(
     requires points { length forest.now.ranges < 2 ^ 31 }
     requires few { length forest.now.rows < 2 ^ 31 }
     requires rows { AreRows (length forest.now.ranges) forest.now.rows }
-    requires listing { IsListing (graph_of (length forest.now.ranges) forest.now.rows) (length forest.now.ranges + length forest.now.rows) links.now }
+    requires listing { IsListingOf forest.now links.now }
     requires ranges { AreRanges (ranges_of E.parts forest.now.ranges) }
     requires room { HasRoom E.parts E.passes (ranges_of E.parts forest.now.ranges) }
     ensures { IfOk result (Settles E.parts forest.now) }
@@ -66,7 +66,7 @@ fn settle_by_values<E: Exact>(
     requires points { length forest.now.ranges < 2 ^ 31 }
     requires few { length forest.now.rows < 2 ^ 31 }
     requires rows { AreRows (length forest.now.ranges) forest.now.rows }
-    requires listing { IsListing (graph_of (length forest.now.ranges) forest.now.rows) (length forest.now.ranges + length forest.now.rows) links.now }
+    requires listing { IsListingOf forest.now links.now }
     requires ranges { AreRanges (ranges_of E.parts forest.now.ranges) }
     requires room { HasRoom E.parts E.passes (ranges_of E.parts forest.now.ranges) }
     requires taken { AreAllTaken E.parts forest.now links.now undos.items }
@@ -88,7 +88,7 @@ fn settle_by_multipliers<E: Exact>(
     requires points { length forest.now.ranges < 2 ^ 31 }
     requires few { length forest.now.rows < 2 ^ 31 }
     requires rows { AreRows (length forest.now.ranges) forest.now.rows }
-    requires listing { IsListing (graph_of (length forest.now.ranges) forest.now.rows) (length forest.now.ranges + length forest.now.rows) links.now }
+    requires listing { IsListingOf forest.now links.now }
     requires clash { IsClash E.parts forest.now links.now undos.items clash }
     ensures { IfOk result (Settles E.parts forest.now) }
 {

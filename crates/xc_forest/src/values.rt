@@ -1,7 +1,7 @@
 // The values of a forest: what was done while its vertices were taken away is undone.
 ghost use Rattle.std.specs.Prelude.{◌≡◌, ℕ, ◌+◌, ◌<◌, ◌∷◌, [], ◌++◌, ◌^◌, Bool, IfOk, length};
 ghost use Rattle.xc_forest.specs.Forests.{HasRoom, ranges_of};
-ghost use Rattle.xc_forest.specs.Steps.Links.{IsListing, graph_of};
+ghost use Rattle.xc_forest.specs.Steps.Links.{IsListingOf};
 ghost use Rattle.xc_forest.specs.Steps.Scaled.{AreBoundsOver, AreValuesOver, scale_of};
 ghost use Rattle.xc_forest.specs.Steps.Splits.{AreSplitOver, CanSplit, pair_with_sign};
 ghost use Rattle.xc_forest.specs.Steps.Trails.{AreSettled, AreAllTaken, with_alone, with_point, with_row};
@@ -23,7 +23,7 @@ pub(crate) fn values<E: Exact>(
     links: &[Link],
     undos: Vec<Undo<E>>,
 ) -> Result<Vec<E>, Memory>
-    requires listing { IsListing (graph_of (length forest.now.ranges) forest.now.rows) (length forest.now.ranges + length forest.now.rows) links.now }
+    requires listing { IsListingOf forest.now links.now }
     requires room { HasRoom E.parts E.passes (ranges_of E.parts forest.now.ranges) }
     requires points { length forest.now.ranges < 2 ^ 31 }
     requires rows { length forest.now.rows < 2 ^ 31 }
@@ -60,7 +60,7 @@ fn put_value_back<E: Exact>(
     values: &mut Vec<E>,
     undo: Undo<E>,
 )
-    requires listing { IsListing (graph_of (length forest.now.ranges) forest.now.rows) (length forest.now.ranges + length forest.now.rows) links.now }
+    requires listing { IsListingOf forest.now links.now }
     requires room { HasRoom E.parts E.passes (ranges_of E.parts forest.now.ranges) }
     requires settled { AreSettled E.parts forest.now links.now (undos.now ++ undo ∷ []) values.old.items }
     ensures { AreSettled E.parts forest.now links.now undos.now values.new.items }
@@ -110,7 +110,7 @@ fn put_point_value<E: Exact>(
     of_row: Bounds<E>,
     of_point: Bounds<E>,
 )
-    requires listing { IsListing (graph_of (length forest.now.ranges) forest.now.rows) (length forest.now.ranges + length forest.now.rows) links.now }
+    requires listing { IsListingOf forest.now links.now }
     requires room { HasRoom E.parts E.passes (ranges_of E.parts forest.now.ranges) }
     requires settled { AreSettled E.parts forest.now links.now (with_point undos.now point row minus of_row of_point) values.old.items }
     ensures { AreSettled E.parts forest.now links.now undos.now values.new.items }
@@ -132,7 +132,7 @@ fn put_row_value<E: Exact>(
     low_of_row: bool,
     high_of_row: bool,
 )
-    requires listing { IsListing (graph_of (length forest.now.ranges) forest.now.rows) (length forest.now.ranges + length forest.now.rows) links.now }
+    requires listing { IsListingOf forest.now links.now }
     requires settled { AreSettled E.parts forest.now links.now (with_row undos.now row point minus low_of_row high_of_row) values.old.items }
     ensures { AreSettled E.parts forest.now links.now undos.now values.new.items }
 {
@@ -148,7 +148,7 @@ fn put_lone_value<E: Exact>(
     vertex: u32,
     value: E,
 )
-    requires listing { IsListing (graph_of (length forest.now.ranges) forest.now.rows) (length forest.now.ranges + length forest.now.rows) links.now }
+    requires listing { IsListingOf forest.now links.now }
     requires settled { AreSettled E.parts forest.now links.now (with_alone undos.now vertex value) values.old.items }
     ensures { AreSettled E.parts forest.now links.now undos.now values.new.items }
 {

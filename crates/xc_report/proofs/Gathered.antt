@@ -11,6 +11,7 @@ use Rattle.xc_report.specs.Dimensions.{is_same_key, with_key, distinct}
 use Rattle.xc_report.specs.Numbered.{IsKeyed, AreKeyed, IsReport, keys_of, with_number, numbered_in}
 use Rattle.xc_report.specs.StatedFacts.{first, faults_of, facts_of, facts_unless, stated_facts, stated_fact, fact_in, fault_in}
 use Rattle.xc_report.specs.Steps.{AreGathered, TellsReport}
+use Rattle.xc_report.specs.Steps.Gained.{Lasts}
 use Rattle.xc_report.specs.Wanted.{Known}
 use Rattle.xc_report.specs.declared.dimensions.Key.{Key}
 use Rattle.xc_report.specs.declared.numbered.KeyedFact.{KeyedFact}
@@ -47,7 +48,7 @@ numbers_stay keys key (k ∷ ks) all = ap₂ (λ x xs. x ∷ xs) (ap (λ n. with
 
 -- with one fact more
 pub gathered_more : (names more : List Expanded) (stated : List StatedFact) (facts : List Fact) (keys put : List Key) (fact : StatedFact) (keyed : KeyedFact) (made : Fact)
-    → AreGathered names stated facts keys → KeepsNumbers names more → ((later : List Expanded) → KeepsNumbers more later → IsKeyed later fact keyed)
+    → AreGathered names stated facts keys → KeepsNumbers names more → Lasts more (λ later. IsKeyed later fact keyed)
     → put ≡ with_key keys keyed.key → made ≡ numbered_in put keyed → AreGathered more (stated ++ fact ∷ []) (facts ++ made ∷ []) put
 gathered_more names more stated facts keys put fact keyed made so_far kept is put_is made_is =
     let before = distinct (keys_of so_far.keyed) in
@@ -85,7 +86,7 @@ module _ (known : Known) (all : Members) (at left : List (String Global × Value
 
   -- a member that states a fact
   pub fact_read : (names more : List Expanded) (facts put : List Fact) (keys with_it : List Key) (fact : StatedFact) (keyed : KeyedFact) (made : Fact) → stated_fact known (string_bytes id, view member) ≡ Ok (Some fact)
-      → KeepsNumbers names more → ((later : List Expanded) → KeepsNumbers more later → IsKeyed later fact keyed) → with_it ≡ with_key keys keyed.key → made ≡ numbered_in with_it keyed → put ≡ facts ++ made ∷ []
+      → KeepsNumbers names more → Lasts more (λ later. IsKeyed later fact keyed) → with_it ≡ with_key keys keyed.key → made ≡ numbered_in with_it keyed → put ≡ facts ++ made ∷ []
       → AreRead known all (members_view at) names facts keys → AreRead known all (members_view left) more put with_it
   fact_read names more facts put keys with_it fact keyed made is kept keys_it with_is made_is put_is so_far =
       let rest = facts_of known (members_view left) in (

@@ -4,9 +4,10 @@ use Rattle.std.specs.Prelude.{◌≡◌, ◌≤◌, ◌++◌, List, [], true, fa
 use Rattle.std.specs.declared.alloc.Global.{Global}
 use Rattle.serde_json.specs.Data.{Members}
 use Rattle.xc_report.specs.Stated.{are_parts, given_parts}
+use Rattle.xc_report.specs.Steps.Gained.{Lasts}
 use Rattle.xc_report.specs.Reports.{StatedIdsAscend}
 use Rattle.xc_report.specs.StatedFacts.{first, faults_of, facts_of}
-use Rattle.xc_names.specs.Names.{AreNumbered, KeepsNumbers}
+use Rattle.xc_names.specs.Names.{AreNumbered}
 use Rattle.xc_names.specs.declared.expanded.Expanded.{Expanded}
 use Rattle.xc_report.specs.Dimensions.{distinct}
 use Rattle.xc_report.specs.Numbered.{AreKeyed, IsReport, keys_of, numbered_facts}
@@ -37,13 +38,13 @@ Tells (Err e) answer = ¬ (e ≡ fault.Memory) → answer ≡ Err e
 -- facts that were read one after another: names that keep their numbers from here on give them keys, and each fact has the number of its key among these
 pub record AreGathered (names : List Expanded) (stated : List StatedFact) (facts : List Fact) (keys : List Key) : Type 0 where
   pub keyed : List KeyedFact
-  pub each : (later : List Expanded) → KeepsNumbers names later → AreKeyed later stated keyed
+  pub each : Lasts names (λ later. AreKeyed later stated keyed)
   pub keys_are : keys ≡ distinct (keys_of keyed)
   pub facts_are : facts ≡ numbered_facts keyed
 
 -- what is answered of the members of `facts`, with these names
 abbrev pub TellsReport : Result Report ReportFault → Known → Members → List Expanded → Type 0
-TellsReport (Ok report) known ms names = (first (faults_of known ms) ≡ None) × ((later : List Expanded) → KeepsNumbers names later → IsReport later (facts_of known ms) report)
+TellsReport (Ok report) known ms names = (first (faults_of known ms) ≡ None) × Lasts names (λ later. IsReport later (facts_of known ms) report)
 TellsReport (Err e) known ms names = ¬ (e ≡ fault.Memory) → first (faults_of known ms) ≡ Some e
 
 -- what is answered of them, with the names that are gained behind these: a report of what they state, by names that keep their numbers, and their ids ascend

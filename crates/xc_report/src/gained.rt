@@ -1,7 +1,7 @@
 // Names that are there, and those that a report has beside.
 ghost use Rattle.std.specs.Prelude.{◌≡◌, ◌+◌, ◌++◌, [], Some, IfOk, OnOk};
 ghost use Rattle.xc_names.specs.Names.{number_of, AreNumbered, KeepsNumbers};
-ghost use Rattle.xc_report.specs.Steps.Gained.{all_names};
+ghost use Rattle.xc_report.specs.Steps.Gained.{MayGain, all_names};
 
 use std::alloc::Global;
 use std::marker::Model;
@@ -47,8 +47,7 @@ impl<'a> Gained<'a> {
     /// The number of the name. A name that is not there yet goes last.
     pub fn number(&mut self, space: &str, local: &str) -> Result<NameId, Memory>
         ensures number { IfOk result (λ id. number_of space.now local.now (all_names self.new) ≡ Some id.0) }
-        ensures there { self.new.there ≡ self.old.there }
-        ensures kept { KeepsNumbers (all_names self.old) (all_names self.new) }
+        ensures names { MayGain self.old self.new }
     {
         match self.there.find(space, local) {
             Some(id) => Ok(id),

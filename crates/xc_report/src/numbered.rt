@@ -1,16 +1,14 @@
 // What a report states, by the numbers of names.
-ghost use Rattle.std.specs.Prelude.{◌≡◌, Some, List, IfOk, OnOk};
+ghost use Rattle.std.specs.Prelude.{◌≡◌, Some, IfOk, OnOk};
 ghost use Rattle.std.specs.BTreeMap.{insert_entry};
 ghost use Rattle.serde_json.specs.View.{members_view};
-ghost use Rattle.xc_names.specs.Names.{KeepsNumbers};
-ghost use Rattle.xc_names.specs.declared.expanded.Expanded.{Expanded as Name};
 ghost use Rattle.xc_report.specs.Dimensions.{dimension_cmp, in_order, with_key};
 ghost use Rattle.xc_report.specs.Numbered.{id_of, dimension_in, AreMeasures, IsValue, IsPart, AreParts, IsKeyed, numbered_in};
 ghost use Rattle.xc_report.specs.Each.{each_some};
 ghost use Rattle.xc_report.specs.Reports.{StatedIdsAscend};
 ghost use Rattle.xc_report.specs.StatedFacts.{facts_of};
 ghost use Rattle.xc_report.specs.Steps.{TellsReport, known_view};
-ghost use Rattle.xc_report.specs.Steps.Gained.{all_names};
+ghost use Rattle.xc_report.specs.Steps.Gained.{MayGain, Lasts, all_names};
 
 use crate::dimensions::{DimValue, Dimension, Key};
 use crate::gained::Gained;
@@ -48,8 +46,7 @@ pub fn numbered_report(
 ) -> Result<Report, ReportFault>
     ensures report { TellsReport result (known_view known.now) (members_view members.entries) (all_names names.new) }
     ensures ascending { IfOk result (λ _. StatedIdsAscend (facts_of (known_view known.now) (members_view members.entries))) }
-    ensures there { names.new.there ≡ names.old.there }
-    ensures kept { KeepsNumbers (all_names names.old) (all_names names.new) }
+    ensures names { MayGain names.old names.new }
 {
     let mut keys = Keys::new(alloc);
     let mut facts = Vec::new(alloc);
@@ -67,9 +64,8 @@ pub fn numbered_report(
 
 // A fact with its key.
 fn keyed_fact(alloc: Global, names: &mut Gained<'_>, fact: StatedFact) -> Result<KeyedFact, Memory>
-    ensures fact { IfOk result (λ keyed. (later : List Name) → KeepsNumbers (all_names names.new) later → IsKeyed later fact keyed) }
-    ensures there { names.new.there ≡ names.old.there }
-    ensures kept { KeepsNumbers (all_names names.old) (all_names names.new) }
+    ensures fact { IfOk result (λ keyed. Lasts (all_names names.new) (λ later. IsKeyed later fact keyed)) }
+    ensures names { MayGain names.old names.new }
 {
     let parts = numbered_parts(alloc, names, fact.parts.into_vec())?;
     let key = key_of_parts(alloc, parts)?;
@@ -88,9 +84,8 @@ fn numbered_parts(
     names: &mut Gained<'_>,
     parts: Vec<StatedPart>,
 ) -> Result<Vec<(Dimension, DimValue)>, Memory>
-    ensures parts { IfOk result (λ numbered. (later : List Name) → KeepsNumbers (all_names names.new) later → AreParts later parts.items numbered.items) }
-    ensures there { names.new.there ≡ names.old.there }
-    ensures kept { KeepsNumbers (all_names names.old) (all_names names.new) }
+    ensures parts { IfOk result (λ numbered. Lasts (all_names names.new) (λ later. AreParts later parts.items numbered.items)) }
+    ensures names { MayGain names.old names.new }
 {
     let mut numbered = Vec::new(alloc);
     for part in parts {
@@ -104,9 +99,8 @@ fn numbered_part(
     names: &mut Gained<'_>,
     part: StatedPart,
 ) -> Result<(Dimension, DimValue), Memory>
-    ensures part { IfOk result (λ numbered. (later : List Name) → KeepsNumbers (all_names names.new) later → IsPart later part numbered) }
-    ensures there { names.new.there ≡ names.old.there }
-    ensures kept { KeepsNumbers (all_names names.old) (all_names names.new) }
+    ensures part { IfOk result (λ numbered. Lasts (all_names names.new) (λ later. IsPart later part numbered)) }
+    ensures names { MayGain names.old names.new }
 {
     let dimension = numbered_dimension(names, &part.dimension)?;
     let value = numbered_value(alloc, names, part.value)?;
@@ -114,9 +108,8 @@ fn numbered_part(
 }
 
 fn numbered_dimension(names: &mut Gained<'_>, name: &DimensionName) -> Result<Dimension, Memory>
-    ensures dimension { IfOk result (λ dimension. (later : List Name) → KeepsNumbers (all_names names.new) later → dimension_in later name.now ≡ Some dimension) }
-    ensures there { names.new.there ≡ names.old.there }
-    ensures kept { KeepsNumbers (all_names names.old) (all_names names.new) }
+    ensures dimension { IfOk result (λ dimension. Lasts (all_names names.new) (λ later. dimension_in later name.now ≡ Some dimension)) }
+    ensures names { MayGain names.old names.new }
 {
     match name {
         DimensionName::Entity => Ok(Dimension::Entity),
@@ -133,9 +126,8 @@ fn numbered_value(
     names: &mut Gained<'_>,
     value: StatedValue,
 ) -> Result<DimValue, Memory>
-    ensures value { IfOk result (λ numbered. (later : List Name) → KeepsNumbers (all_names names.new) later → IsValue later value numbered) }
-    ensures there { names.new.there ≡ names.old.there }
-    ensures kept { KeepsNumbers (all_names names.old) (all_names names.new) }
+    ensures value { IfOk result (λ numbered. Lasts (all_names names.new) (λ later. IsValue later value numbered)) }
+    ensures names { MayGain names.old names.new }
 {
     match value {
         StatedValue::Pair(scheme, identifier) => Ok(DimValue::Pair(scheme, identifier)),
@@ -156,9 +148,8 @@ fn numbered_measures(
     names: &mut Gained<'_>,
     measures: &Items<Expanded>,
 ) -> Result<Items<NameId>, Memory>
-    ensures measures { IfOk result (λ ids. (later : List Name) → KeepsNumbers (all_names names.new) later → AreMeasures later measures.now ids) }
-    ensures there { names.new.there ≡ names.old.there }
-    ensures kept { KeepsNumbers (all_names names.old) (all_names names.new) }
+    ensures measures { IfOk result (λ ids. Lasts (all_names names.new) (λ later. AreMeasures later measures.now ids)) }
+    ensures names { MayGain names.old names.new }
 {
     let mut ids = numbers(alloc, names, measures.as_slice())?;
     ids.sort()?;
@@ -166,9 +157,8 @@ fn numbered_measures(
 }
 
 fn numbers(alloc: Global, names: &mut Gained<'_>, list: &[Expanded]) -> Result<Vec<NameId>, Memory>
-    ensures numbers { IfOk result (λ ids. (later : List Name) → KeepsNumbers (all_names names.new) later → each_some (id_of later) list.now ≡ Some ids.items) }
-    ensures there { names.new.there ≡ names.old.there }
-    ensures kept { KeepsNumbers (all_names names.old) (all_names names.new) }
+    ensures numbers { IfOk result (λ ids. Lasts (all_names names.new) (λ later. each_some (id_of later) list.now ≡ Some ids.items)) }
+    ensures names { MayGain names.old names.new }
 {
     let mut ids = Vec::new(alloc);
     for name in list {
@@ -178,9 +168,8 @@ fn numbers(alloc: Global, names: &mut Gained<'_>, list: &[Expanded]) -> Result<V
 }
 
 fn number(names: &mut Gained<'_>, name: &Expanded) -> Result<NameId, Memory>
-    ensures number { IfOk result (λ id. (later : List Name) → KeepsNumbers (all_names names.new) later → id_of later name.now ≡ Some id) }
-    ensures there { names.new.there ≡ names.old.there }
-    ensures kept { KeepsNumbers (all_names names.old) (all_names names.new) }
+    ensures number { IfOk result (λ id. Lasts (all_names names.new) (λ later. id_of later name.now ≡ Some id)) }
+    ensures names { MayGain names.old names.new }
 {
     names.number(name.space.as_str(), name.local.as_str())
 }

@@ -1,7 +1,8 @@
 -- How far an exchange is written into another table.
 use Rattle.std.specs.Prelude.{◌≡◌, ◌≢◌, ℕ, ◌<◌, ◌*◌, pos, List, length}
+use Rattle.xc_frac.specs.declared.wide.Wide.{Wide}
 use Rattle.xc_model.specs.Ratio.{Ratio}
-use Rattle.xc_tableau.specs.Exchanges.{IsEntering, IsOtherEntry}
+use Rattle.xc_tableau.specs.Exchanges.{PassesIn, IsEntering, IsOtherEntry}
 use Rattle.xc_tableau.specs.Tables.{Table, Has}
 use Rattle.xc_tableau.specs.declared.pivoting.Pivot.{Pivot}
 
@@ -16,6 +17,10 @@ pub record IsPivot (pivot : Pivot) (entries : List Ratio) : Type 0 where
   pub column : pivot.column < pivot.columns
   pub value : Has (table pivot entries) pivot.row pivot.column pivot.value
   pub some : pivot.value.num ≢ pos 0
+
+-- w is an operation of the pivot's exchange, and passes
+abbrev pub PassesInPivot : Pivot → List Ratio → Wide → Type 0
+PassesInPivot pivot entries = PassesIn (table pivot entries) pivot.row pivot.column
 
 -- the first n entries of the pivot's row are written
 abbrev pub EnteringDone : Pivot → List Ratio → ℕ → List Ratio → Type 0

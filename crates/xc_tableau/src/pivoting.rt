@@ -2,8 +2,8 @@
 ghost use Rattle.std.specs.Prelude.{◌≡◌, ◌≢◌, ◌<◌, ◌+◌, ◌*◌, ◌^◌, ℕ, pos, IfOk, IfErr, OnOk, OnErr, IsTrue, ◌↔◌, length};
 ghost use Rattle.xc_corners.specs.Operations.{IsNegativeOf, IsProductFactor};
 ghost use Rattle.xc_frac.specs.declared.wide.Wide.{Wide};
-ghost use Rattle.xc_tableau.specs.Exchanges.{PassesIn, IsEntering, IsLeaving, IsOtherEntry, IsExchanged};
-ghost use Rattle.xc_tableau.specs.Steps.{IsPivot, table, EnteringDone, HasZero, RowDone, RowsKept, OthersDone};
+ghost use Rattle.xc_tableau.specs.Exchanges.{IsEntering, IsLeaving, IsOtherEntry, IsExchanged};
+ghost use Rattle.xc_tableau.specs.Steps.{IsPivot, table, PassesInPivot, EnteringDone, HasZero, RowDone, RowsKept, OthersDone};
 ghost use Rattle.xc_tableau.specs.Tables.{Has};
 
 use xc_frac::{Frac, Wide, ratio};
@@ -31,8 +31,8 @@ pub fn exchange(entries: &[Frac], new: &mut [Frac], pivot: &Pivot) -> Result<(),
     requires room { length new.old ≡ pivot.now.rows * pivot.now.columns }
     ensures room { length new.new ≡ length new.old }
     ensures exchanged { OnOk result (IsExchanged (table pivot.now entries.now) pivot.now.row pivot.now.column (table pivot.now new.new)) }
-    ensures fits { OnOk result ((w : Wide) → ¬ PassesIn (table pivot.now entries.now) pivot.now.row pivot.now.column w) }
-    ensures passes { IfErr result (PassesIn (table pivot.now entries.now) pivot.now.row pivot.now.column) }
+    ensures fits { OnOk result ((w : Wide) → ¬ PassesInPivot pivot.now entries.now w) }
+    ensures passes { IfErr result (PassesInPivot pivot.now entries.now) }
 {
     fill_entering(entries, new, pivot)?;
     fill_others(entries, new, pivot)
@@ -44,7 +44,7 @@ fn fill_entering(entries: &[Frac], new: &mut [Frac], pivot: &Pivot) -> Result<()
     requires room { length new.old ≡ pivot.now.rows * pivot.now.columns }
     ensures room { length new.new ≡ length new.old }
     ensures done { OnOk result (EnteringDone pivot.now entries.now pivot.now.columns new.new) }
-    ensures passes { IfErr result (PassesIn (table pivot.now entries.now) pivot.now.row pivot.now.column) }
+    ensures passes { IfErr result (PassesInPivot pivot.now entries.now) }
 {
     for column in 0..pivot.columns {
         new[place(pivot.columns, pivot.row, column)] = entering_entry(entries, pivot, column)?;
@@ -57,7 +57,7 @@ fn entering_entry(entries: &[Frac], pivot: &Pivot, column: u32) -> Result<Frac, 
     requires pivot { IsPivot pivot.now entries.now }
     requires column { column < pivot.now.columns }
     ensures is { IfOk result (IsEntering (table pivot.now entries.now) pivot.now.row pivot.now.column column) }
-    ensures passes { IfErr result (PassesIn (table pivot.now entries.now) pivot.now.row pivot.now.column) }
+    ensures passes { IfErr result (PassesInPivot pivot.now entries.now) }
 {
     if column == pivot.column {
         return ratio(1, 1).div(pivot.value);
@@ -87,7 +87,7 @@ fn fill_others(entries: &[Frac], new: &mut [Frac], pivot: &Pivot) -> Result<(), 
     ensures room { length new.new ≡ length new.old }
     ensures entering { OnOk result (EnteringDone pivot.now entries.now pivot.now.columns new.new) }
     ensures done { OnOk result (OthersDone pivot.now entries.now pivot.now.rows new.new) }
-    ensures passes { IfErr result (PassesIn (table pivot.now entries.now) pivot.now.row pivot.now.column) }
+    ensures passes { IfErr result (PassesInPivot pivot.now entries.now) }
 {
     for row in 0..pivot.rows {
         fill_row(entries, new, pivot, row)?;
@@ -105,7 +105,7 @@ fn fill_row(entries: &[Frac], new: &mut [Frac], pivot: &Pivot, row: u32) -> Resu
     ensures kept { RowsKept pivot.now row new.old new.new }
     ensures entering { OnOk result (EnteringDone pivot.now entries.now pivot.now.columns new.new) }
     ensures done { OnOk result (row ≢ pivot.now.row → RowDone pivot.now entries.now row pivot.now.columns new.new) }
-    ensures passes { IfErr result (PassesIn (table pivot.now entries.now) pivot.now.row pivot.now.column) }
+    ensures passes { IfErr result (PassesInPivot pivot.now entries.now) }
 {
     if row == pivot.row {
         return Ok(());
@@ -158,7 +158,7 @@ fn other_entry(
     requires factor { Has (table pivot.now entries.now) row pivot.now.column factor }
     requires entering { IsEntering (table pivot.now entries.now) pivot.now.row pivot.now.column column entering }
     ensures is { IfOk result (IsOtherEntry (table pivot.now entries.now) pivot.now.row pivot.now.column row column) }
-    ensures passes { IfErr result (PassesIn (table pivot.now entries.now) pivot.now.row pivot.now.column) }
+    ensures passes { IfErr result (PassesInPivot pivot.now entries.now) }
 {
     let product = product(entries, pivot, row, column, factor, entering)?;
     if column == pivot.column {
@@ -185,7 +185,7 @@ fn product(
         → IsLeaving (table pivot.now entries.now) pivot.now.row pivot.now.column row r) }
     ensures product { IfOk result (λ m. column ≢ pivot.now.column
         → IsProductFactor (Has (table pivot.now entries.now)) pivot.now.row pivot.now.column row column m) }
-    ensures passes { IfErr result (PassesIn (table pivot.now entries.now) pivot.now.row pivot.now.column) }
+    ensures passes { IfErr result (PassesInPivot pivot.now entries.now) }
 {
     factor.mul(entering)
 }

@@ -1,11 +1,12 @@
 -- The order in which vertices are taken away, each with its last neighbour.
-use Rattle.std.specs.Prelude.{◌≡◌, ℕ, ◌-◌, ◌<◌, ◌≤◌, ◌⊎◌, slice_index_or, Bool, true, false, List, [], ◌∷◌, map, length, nat_le, if◌then◌else◌, ℤ, pos, refl}
+use Rattle.std.specs.Prelude.{◌≡◌, ℕ, ◌+◌, ◌-◌, ◌<◌, ◌≤◌, ◌⊎◌, slice_index_or, Bool, true, false, List, [], ◌∷◌, map, length, nat_le, if◌then◌else◌, ℤ, pos, refl}
 use Rattle.xc_forest.specs.Forests.{row_at, row_sum, unit_at}
 use Rattle.xc_lists.specs.Members.{IsIn, IsOnce}
 use Rattle.xc_forest.specs.Steps.Edges.{Edge, IsEdgeIn, Joins, at, IsGone}
 use Rattle.xc_forest.specs.Steps.Vertices.{Graph, IsLeafPoint, IsLeafRow, IsAlone}
 use Rattle.xc_forest.specs.declared.links.Link.{Link}
 use Rattle.xc_forest.specs.declared.tallies.Tally.{Tally}
+use Rattle.xc_forest.specs.declared.types.Forest.{Forest}
 
 -- vertex v is a row
 abbrev pub is_row_of : ℕ → ℕ → Bool
@@ -56,6 +57,10 @@ pub record IsListing (g : Graph) (n : ℕ) (links : List Link) : Type 0 where
   pub known : (v : ℕ) → IsIn v (vertices links) → v < n
   pub all : (v : ℕ) → v < n → IsIn v (vertices links)
   pub each : AreLinks g links
+
+-- links of all points and rows of a forest, each once
+abbrev pub IsListingOf : {E : Type 0} → Forest E → List Link → Type 0
+IsListingOf forest links = IsListing (graph_of (length forest.ranges) forest.rows) (length forest.ranges + length forest.rows) links
 
 -- link j tells the last neighbour of vertex j of the order: whatever else it is next to is gone by then
 pub record IsLinkAt (edges : List Edge) (order : List ℕ) (j : ℕ) (link : Link) : Type 0 where

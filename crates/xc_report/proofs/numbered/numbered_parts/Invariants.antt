@@ -1,9 +1,7 @@
-use Rattle.std.proofs.Common.{◌≡◌, ◌++◌, List}
+use Rattle.std.proofs.Common.{◌++◌, List}
 use Rattle.std.specs.Vec.Iter.{into_iter_items}
-use Rattle.xc_names.specs.Names.{KeepsNumbers}
-use Rattle.xc_names.specs.declared.expanded.Expanded.{Expanded}
 use Rattle.xc_report.specs.Numbered.{AreParts}
-use Rattle.xc_report.specs.Steps.Gained.{all_names}
+use Rattle.xc_report.specs.Steps.Gained.{MayGain, Lasts, all_names}
 use Rattle.xc_report.specs.declared.dimensions.Dimension.{Dimension}
 use Rattle.xc_report.specs.declared.dimensions.DimValue.{DimValue}
 use Rattle.xc_report.proofs.numbered.numbered_parts.Given as goal
@@ -13,7 +11,6 @@ abbrev pub invariant-loop-part : goal.invariant-loop-part
 invariant-loop-part l = record {
   can : (goal.iterator-loop-part).can_next l.part-iterator;
   ends : (goal.iterator-loop-part).is_finite l.part-iterator;
-  there : l.names.there ≡ l.fn.names.there;
-  kept : KeepsNumbers (all_names l.fn.names) (all_names l.names);
-  each : (later : List Expanded) → KeepsNumbers (all_names l.names) later → (rest : List (Dimension × DimValue)) → AreParts later (into_iter_items l.part-iterator) rest → AreParts later l.fn.parts.items (l.numbered.items ++ rest);
+  names : MayGain l.fn.names l.names;
+  each : Lasts (all_names l.names) (λ later. (rest : List (Dimension × DimValue)) → AreParts later (into_iter_items l.part-iterator) rest → AreParts later l.fn.parts.items (l.numbered.items ++ rest));
 }

@@ -1,14 +1,13 @@
-use Rattle.std.proofs.Common.{rules, List, Vec, Global, ◌≡◌, [], ◌∷◌, ap, Ok, string_bytes, refl, sym, subst, ◌∙◌}
+use Rattle.std.proofs.Common.{rules, Vec, Global, ◌≡◌, [], ◌∷◌, ap, Ok, string_bytes, sym, subst, ◌∙◌}
 use Rattle.serde_json.specs.View.{view, members_view}
 use Rattle.xc_report.specs.Steps.{AreGathered, known_view}
 use Rattle.xc_names.specs.Names.{KeepsNumbers}
-use Rattle.xc_names.specs.declared.expanded.Expanded.{Expanded}
 use Rattle.xc_report.specs.Numbered.{IsKeyed, numbered_in}
 use Rattle.xc_report.specs.declared.reports.Fact.{Fact}
-use Rattle.xc_report.specs.Steps.Gained.{all_names}
+use Rattle.xc_report.specs.Steps.Gained.{MayGain, Lasts, all_names}
 use Rattle.xc_report.specs.StatedFacts.{first, faults_of, facts_of, stated_fact}
 use Rattle.xc_report.proofs.Gathered.{none_gathered, no_fault, left_out, fact_read}
-use Rattle.xc_report.proofs.Kept.{kept_on}
+use Rattle.xc_report.proofs.Kept.{none_gained, gain_on}
 use Rattle.xc_report.proofs.StatedIds.{stated_ascend}
 use Rattle.xc_report.proofs.numbered.numbered_report.Goals as goal
 use Rattle.xc_report.proofs.numbered.numbered_report.Goals.{in-Some-2+in_ok-keyed+in_ok-place_fact+in_ok-push, in_default}
@@ -19,8 +18,7 @@ loop-id-init c =
     record {
       can = tt;
       ends = tt;
-      there = refl;
-      kept = λ space local number h. h;
+      names = none_gained c.args.names.now;
       facts = (
         [],
         ap (λ es. facts_of (known_view c.args.known.now) (members_view es)) same,
@@ -38,10 +36,9 @@ loop-id-preserved c =
     record {
       can = tt;
       ends = tt;
-      there = elim c.match-branch-2.branch [ in-Some-2+in_ok-keyed+in_ok-place_fact+in_ok-push w ↦ search rules | in_default w ↦ search rules ];
-      kept = elim c.match-branch-2.branch [
-        | in-Some-2+in_ok-keyed+in_ok-place_fact+in_ok-push w ↦ subst (λ names. KeepsNumbers (all_names c.args.names.now) (all_names names)) (sym w.names-is) (kept_on _ _ _ c.loop-id.invariant.kept w.keyed_fact.ensures.kept)
-        | in_default w ↦ subst (λ names. KeepsNumbers (all_names c.args.names.now) (all_names names)) (sym w.names-is) c.loop-id.invariant.kept
+      names = elim c.match-branch-2.branch [
+        | in-Some-2+in_ok-keyed+in_ok-place_fact+in_ok-push w ↦ subst (MayGain c.args.names.now) (sym w.names-is) (gain_on c.loop-id.invariant.names w.keyed_fact.ensures.names)
+        | in_default w ↦ subst (MayGain c.args.names.now) (sym w.names-is) c.loop-id.invariant.names
       ];
       facts = elim c.match-branch-2.branch [
         | in-Some-2+in_ok-keyed+in_ok-place_fact+in_ok-push w ↦
@@ -49,8 +46,8 @@ loop-id-preserved c =
             let keyed = w.in_ok-keyed.keyed in
             fact_read known all c.loop-id.id-iterator c.next.new.self c.in-Some.id c.in-Some.member here (all_names c.loop-id.names) (all_names c.match-branch-2.names)
             c.loop-id.facts.items c.match-branch-2.facts.items c.loop-id.keys c.match-branch-2.keys fact keyed w.in_ok-place_fact.field-0 (is ∙ ap Ok w.in-Some-2.is)
-            (subst (λ names. KeepsNumbers (all_names c.loop-id.names) (all_names names)) (sym w.names-is) w.keyed_fact.ensures.kept)
-            (subst (λ names. (later : List Expanded) → KeepsNumbers (all_names names) later → IsKeyed later fact keyed) (sym w.names-is) w.in_ok-keyed.ensures.fact)
+            (subst (λ names. KeepsNumbers (all_names c.loop-id.names) (all_names names)) (sym w.names-is) w.keyed_fact.ensures.names.kept)
+            (subst (λ names. Lasts (all_names names) (λ later. IsKeyed later fact keyed)) (sym w.names-is) w.in_ok-keyed.ensures.fact)
             (w.keys-is ∙ w.in_ok-place_fact.ensures.keys)
             (w.in_ok-place_fact.ensures.fact ∙ ap (λ ks. numbered_in ks keyed) (sym w.keys-is))
             (ap (λ (v : Vec Fact Global). v.items) w.facts-is ∙ w.in_ok-push.ensures.items)

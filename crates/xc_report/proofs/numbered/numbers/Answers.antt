@@ -3,19 +3,18 @@ use Rattle.std.proofs.lemmas.List.{drop_more}
 use Rattle.std.proofs.Math.ListN.{drop_of_length-le}
 use Rattle.xc_report.specs.Each.{each_some}
 use Rattle.xc_report.specs.Numbered.{id_of}
-use Rattle.xc_report.proofs.Kept.{kept_on}
+use Rattle.xc_report.proofs.Kept.{kept_on, gain_on}
 use Rattle.xc_report.proofs.Pieces.{each_cons}
 use Rattle.xc_report.proofs.numbered.numbers.Goals as goal
 
 pub loop-name-preserved : goal.loop-name-preserved
 loop-name-preserved c = record {
-  there = c.number.ensures.there ∙ c.loop-name.invariant.there;
-  kept = kept_on _ _ _ c.loop-name.invariant.kept c.number.ensures.kept;
+  names = gain_on c.loop-name.invariant.names c.number.ensures.names;
   each = λ later keeps rest e.
       let id = c.in_ok-number.field-0 in
       let left = drop (c.loop-name.name-index + 1) c.args.list.now in
       let here : drop c.loop-name.name-index c.args.list.now ≡ c.name-item.result ∷ left = drop_more c.args.list.now c.loop-name.name-index c.name-item.result c.loop-name-test.true ∙ ap (λ x. x ∷ left) (sym c.name-item.is) in
-      c.loop-name.invariant.each later (kept_on _ _ _ c.number.ensures.kept keeps) (id ∷ rest) (ap (each_some (id_of later)) here ∙ each_cons (id_of later) c.name-item.result id left rest (c.in_ok-number.ensures.number later keeps) e)
+      c.loop-name.invariant.each later (kept_on _ _ _ c.number.ensures.names.kept keeps) (id ∷ rest) (ap (each_some (id_of later)) here ∙ each_cons (id_of later) c.name-item.result id left rest (c.in_ok-number.ensures.number later keeps) e)
       ∙ ap Some (sym (ap (λ items. items ++ rest) c.in_ok-push.ensures.items ∙ append_assoc c.loop-name.ids.items (id ∷ []) rest));
 }
 

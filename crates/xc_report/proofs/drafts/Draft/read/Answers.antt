@@ -18,7 +18,7 @@ returns c =
     let read : members_view c.object_in-members.result.entries ≡ members = c.object_in-members.ensures ∙ ap members_or_none c.member_in.ensures in
     let is_known : known_view c.in_ok-known.known ≡ known = c.in_ok-known.ensures in
     let names : all_names c.numbered_report.new.names ≡ c.args.names.now ++ c.into_gained.result =
-    ap₂ (λ there gained. there ++ gained) (c.numbered_report.ensures.there ∙ c.new-gained.ensures.there) (sym c.into_gained.ensures.gained) in
+    ap₂ (λ there gained. there ++ gained) (c.numbered_report.ensures.names.there ∙ c.new-gained.ensures.there) (sym c.into_gained.ensures.gained) in
     record {
       report = (
         subst (λ n. TellsReport (Ok report) known members n) names

@@ -19,7 +19,10 @@ returns-in_ok-id-in-None-clause-number c =
     (number_behind c.self.inside.there.now c.number.new.self c.args.space.now c.args.local.now c.in_ok-id-in-None.id.0 (sym c.in-None.ensures.number) c.in_ok-id-in-None.ensures.number)
     c.behind.result (subst (λ n. IfOk c.behind.result (λ id. id.0 ≡ n + c.in_ok-id-in-None.id.0)) c.self.invariant.0 c.behind.ensures)
 
-pub returns-in_ok-id-in-None-clause-kept : goal.returns-in_ok-id-in-None-clause-kept
-returns-in_ok-id-in-None-clause-kept c =
+pub returns-in_ok-id-in-None-clause-names : goal.returns-in_ok-id-in-None-clause-names
+returns-in_ok-id-in-None-clause-names c =
     let grown = grown_by c.self.inside.there.now c.self.inside.gained c.number.new.self c.args.space.now c.args.local.now (sym c.in-None.ensures.number) c.number.result c.number.ensures.names c.number.ensures.err in
-    subst (λ names. KeepsNumbers (all_names names) (c.self.inside.there.now ++ c.number.new.self)) c.self.view_is grown.kept
+    record {
+      there = ap (λ names. names.there) c.self.view_is;
+      kept = subst (λ names. KeepsNumbers (all_names names) (c.self.inside.there.now ++ c.number.new.self)) c.self.view_is grown.kept;
+    }
